@@ -1,10 +1,11 @@
 """What is likely to be wrong with a specification that is accepted, and that no message tells.
 
 Looked for are outputs that have no event or one at most, delays that are over after one event, or are hardly ever set, or again and again, states and conditions
-without a start, updates that repeat an old key or put together what comes apart, inputs that no output needs, and updates that copy.
+without a start, updates that repeat an old key or put together what comes apart, inputs and definitions that nothing needs, and updates that copy.
 """
 
 import re
+from collections import Counter
 
 from equations import AT_START, NEVER, OFTEN, ONCE, UPDATES, how_often, read
 from when import NOT, START, When, alone, asked_at, at_start, causes, covers, held, maybe_at_start, needs, never_meet, on_cycles, users_of
@@ -12,6 +13,10 @@ from when import NOT, START, When, alone, asked_at, at_start, causes, covers, he
 HOW_OFTEN = {NEVER: "never has an event", AT_START: "has an event at 0 and no other", ONCE: "has one event at most"}
 COPIED = re.compile(r"^(\S+) (\d+:\d+) copied: (.*)$")
 UPDATED = re.compile(r"^(\S+) (\d+:\d+) (?:in place|copied: .*)$", re.M)
+CONDITION = re.compile(r"(?:gt|ge|lt|le|eq|ne|and|or|not|contains)\(")
+# What is no name of a stream that is used: comments, texts, and the names that outputs are printed by.
+NO_USE = re.compile(r'--[^\n]*|#[^\n]*|"(?:[^"\\\n]|\\.)*"|\bas\s+\w+')
+DEFINITION = re.compile(r"\bdef\s+([^\W\d]\w*)\s*[:=]")
 INPUT = re.compile(r"^in\s+([^\s:]+)\s*:")
 
 
@@ -58,9 +63,19 @@ def of_delays(equations, counts):
 def of_inputs(source, equations):
     """Inputs that do not run, as the lines of the source have them."""
     running = {equation.name for equation in equations.values() if equation.operation == "Input"}
-    for line in source.splitlines():
+    for line in source.split("\n"):
         if (found := INPUT.match(line.strip())) and found[1] not in running:
             yield f"no output needs the input {found[1]}"
+
+
+def of_definitions(source):
+    """Definitions without parameters that stand nowhere else in the source. Functions and macros may be there to be called once."""
+    text = NO_USE.sub(" ", source)
+    defined = DEFINITION.findall(text)
+    words = Counter(re.findall(r"\w+", text))
+    for name in dict.fromkeys(defined):
+        if words[name] == defined.count(name):
+            yield f"nothing uses the definition {name}"
 
 
 def is_empty(number, equations):
@@ -176,17 +191,36 @@ def is_new(equations, number):
     return here if equations[before].operation == "Last" and equations[before].arguments == (here, here) else None
 
 
+def is_rising(equations, number):
+    """The stream of which a condition asks whether it becomes true: `c && !last(c, c)`, or None."""
+    equation = equations[number]
+    if equation.text != "and($0, $1)":
+        return None
+    here, rest = (held(equations, it) for it in equation.arguments)
+    before = equations[held(equations, equations[rest].arguments[0])] if equations[rest].text == NOT else None
+    return here if before and before.operation == "Last" and before.arguments == (here, here) else None
+
+
 def of_first(equations, when):
     """A condition that compares with the value before is not there at the first event."""
     for equation in equations.values():
         if equation.operation != "Filter":
             continue
-        stream = is_new(equations, held(equations, equation.arguments[1]))
-        if stream is not None and equations[stream].name and when(stream) == when(equation.arguments[0]):
-            name = equations[stream].name
+        condition = held(equations, equation.arguments[1])
+        new, rising = is_new(equations, condition), is_rising(equations, condition)
+        stream = rising if new is None else new
+        if stream is None or not equations[stream].name or when(stream) != when(equation.arguments[0]):
+            continue
+        name, first = equations[stream].name, f"the filter {told(equation)} leaves out the first event of"
+        if new is not None:
             yield (
-                f"the filter {told(equation)} leaves out the first event of {name}, since its condition needs last({name}, {name}): "
+                f"{first} {name}, since its condition needs last({name}, {name}): "
                 f"`merge({name} != last({name}, {name}), const(true, {name}))` counts it as new"
+            )
+        else:
+            yield (
+                f"{first} {name} also where it is true, since its condition needs last({name}, {name}): "
+                f"`{name} && !merge(last({name}, {name}), const(false, {name}))` counts it as false before"
             )
 
 
@@ -226,10 +260,11 @@ def of_lasting(equations):
         if amount is None or amount.operation != "Lift" or len(amount.arguments) != 1:
             continue
         source, reset = equations[amount.arguments[0]], equations[equation.arguments[1]]
-        if source.operation == "Filter" and reset.name and reset.operation == "Lift" and held(equations, source.arguments[1]) == reset.number:
-            name = reset.name
+        asks = source if source == reset else equations[held(equations, source.arguments[1])] if source.operation == "Filter" else None
+        if reset.name and reset == asks and reset.operation == "Lift" and CONDITION.match(reset.text):
+            name, was = reset.name, "true" if source.operation == "Filter" else "so"
             yield (
-                f"the delay {told(equation)} is set anew at each event of {name}, also where it was true before: "
+                f"the delay {told(equation)} is set anew at each event of {name}, also where it was {was} before: "
                 f"`filter({name}, merge({name} != last({name}, {name}), const(true, {name})))` has its changes alone"
             )
 
@@ -289,4 +324,5 @@ def silent(flat, show, source):
     yield from of_keys(show, equations, when)
     yield from of_fields(show, equations, when)
     yield from of_inputs(source, equations)
+    yield from of_definitions(source)
     yield from of_updates(show, equations)

@@ -67,6 +67,8 @@ export class Declared {
     if (!found) return null;
     const [, have, want] = found;
     if (want === "literal") return ofLiteral(text, have);
+    if (have === "function")
+      return answer("braces stand around the body of a macro alone", "write the expression without them, and its parts as definitions of their own");
     const [name, around] = [text.nameHere(), text.around()];
     if (around?.isOfValues() && text.at > around.at) return this.ofValueFunction(name, around, have, want);
     return this.ofStream(text, name, have, want);
@@ -89,6 +91,10 @@ export class Declared {
     }
     if (want === `Option[${have}]`) return answer(`a value that may be absent is meant, and this is ${have}`, "write Some(..) around it");
     if (have === `Option[${want}]`) return answer(`a value is meant, and this may be absent: ${have}`, "write getSome(..) where isSome(..) holds");
+    if (want === `Events[${have}]`) {
+      const helps = `write ${have} as the type of its result, or Events[..] for its parameters: then it is a macro`;
+      return answer(`${part(item.name)} is a function of values, and gives a value`, helps);
+    }
     return ofTexts(have, want);
   }
 
@@ -111,8 +117,13 @@ export class Declared {
     if (["merge", "default"].includes(name) && isStream(have) && want !== have && isStream(want) && given?.length === 2) return ofMerge(text, have, want);
     if (want.startsWith("one of")) {
       const inner = isStream(have) ? have.slice("Events[".length, -1) : have;
-      return answer(`a stream of another type is meant: this is one of ${part(inner)}`, `it may be ${anyOf(want)}`);
+      const form = want.includes(",") ? null : entry(this.tables.BUILT_IN, name);
+      const first = form ? `, and is the first argument: ${name}(${form.join(", ")})` : "";
+      return answer(`a stream of another type is meant: this is one of ${part(inner)}`, `it may be ${anyOf(want)}${first}`);
     }
+    if (have === `Events[${want}]`) return answer(`a macro gives a stream, and its result is written as ${part(want)}`, `write ${part(have)}`);
+    if (name === "delay" && want === "Events[Int]")
+      return answer(`delay takes how long it waits first, a stream of Int, and this is ${part(have)}`, "write delay(const(10, e), e)");
     return ofTexts(have, want);
   }
 }
@@ -169,7 +180,9 @@ function ofTexts(have, want) {
     "Bool Int": "change the part, or write if c then 1 else 0 of it",
     "Int Bool": "change the part, or compare it: x != 0",
   }[`${found} ${asked}`];
-  return answer(`a ${what} of ${asked} is meant, and a part of this operation is a ${what} of ${found}`, helps ?? "change the part");
+  const ofUnit = "a Unit only comes, and has nothing to calculate with: const(1, e) has a number wherever e comes";
+  const told = [found, asked].includes("Unit") ? ofUnit : (helps ?? "change the part");
+  return answer(`a ${what} of ${asked} is meant, and a part of this operation is a ${what} of ${found}`, told);
 }
 
 /** The first argument of const, which is no literal. */

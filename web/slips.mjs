@@ -147,7 +147,7 @@ function ofName(text, before, after) {
 
 /** A single = in an expression. */
 function ofEquals(before, after) {
-  if (!/^=(?![=>])/.test(after) || !search(`[\\p{L}\\p{N}_)"\\]]$`, before) || search(`${START}def ${WORD}$`, before)) return null;
+  if (!/^=(?![=<>])/.test(after) || !search(`[\\p{L}\\p{N}_)"\\]]$`, before) || search(`${START}def ${WORD}$`, before)) return null;
   return answer("= defines, and compares nothing", "write ==");
 }
 
@@ -167,7 +167,10 @@ function ofItem(text, before, after, { KEYWORDS }) {
   if (text.beginsLine() && before && /^[-(]/.test(after))
     return answer(`a ${after[0]} that begins a line begins something new`, `put the ${after[0]} at the end of the line before`);
   const word = match(WORD, after)?.[0];
-  if (word && !KEYWORDS.includes(word) && search(`[\\p{L}\\p{N}_)"\\]]$`, before))
+  const goesOn = word && !KEYWORDS.includes(word) && search(`[\\p{L}\\p{N}_)"\\]]$`, before);
+  if (goesOn && text.beginsLine())
+    return answer(`${part(word)} begins no item`, "begin an item with in, def or out; where a line goes on, an operator or a comma stands between");
+  if (goesOn)
     return answer(`${part(word)} follows what is complete`, "an operator or a comma is missing before it, or it is an item and begins with in, def or out");
   return null;
 }

@@ -105,8 +105,10 @@ def installed_works(starts, prefix):
         tried.holds(f"it offers no {word}", counts == [0, 1], usage)
         ended = starts.plain(word, "x", launcher=launcher, env={"TESSLA_PROGRAM": ""})
         tried.ended(f"what is installed is asked to {word}", ended, 125, "", f"tessla: {word} {OF_REPOSITORY}")
-    ended = starts.plain("page", launcher=launcher, env={"TESSLA_PROGRAM": ""})
-    tried.ended("what is installed without a page says so", ended, 125, "", "tessla: there is no page\n")
+    for words in ((), (os.path.join(starts.room, "none.html"),)):
+        ended = starts.plain("page", *words, launcher=launcher, env={"TESSLA_PROGRAM": ""})
+        said = "tessla: there is no page: it was not made before this was installed or packed\n"
+        tried.ended(f"what is installed without a page says so ({len(words)})", ended, 125, "", said)
     ended = starts.start([os.path.join(prefix, "bin", "log2trace"), "csv", "--only", "door"], given=b"time,door,temp\n1,true,20.5\n")
     tried.ended("the installed log2trace", ended, 0, "1: door = true\n", "")
     os.rename(os.path.join(prefix, "libexec", "tessla", "tessla"), os.path.join(prefix, "gone"))

@@ -56,6 +56,22 @@ SLIPS = (
     ("out const(Queue.empty[Int], e) as x", "WrongType", "Queue.empty[Int] is a stream", "last(Queue.empty[Int], e)"),
     ("out const(Set.empty[Int], e) as x", "WrongType", "Set.empty[Int] is a stream", "last(Set.empty[Int], e)"),
     ("out i = i as x", "Unexpected", "= defines", "write =="),
+    ("out i =< 5 as x", "Unexpected", "=< is no operator", "write <="),
+    ("out b -> b as x", "Unexpected", "-> is no operator", "write !a || b"),
+    ("out time() as x", "Unexpected", "time is called with nothing", "time(e)"),
+    ("out i + 1) as x", "Unexpected", "this ) closes nothing", "take it away"),
+    ("out merge(i, 5)) as x", "Unexpected", "this ) closes nothing", "take it away"),
+    ("out (if b then i) as x", "Unexpected", "an if has no else", "else"),
+    ("assert i > 5\nout i", "Unexpected", "assert begins no item", "in, def or out"),
+    ("out average(i) as x", "UnknownName", "average is not there", "the recipe average of the cookbook"),
+    ("out every(10) as x", "UnknownName", "every is not there", "def tick: Events[Unit]"),
+    ("out always(b) as x", "UnknownName", "always is not there", "out filter(c, !c)"),
+    ("def f(x: Int): Int := { x }\nout f(i) as z", "WrongType", "braces stand around the body of a macro alone", "without them"),
+    ("def f(x: Int): Events[Int] := x\nout f(i) as z", "WrongType", "f is a function of values, and gives a value", "write Int as the type"),
+    ("def f(x: Events[Int]): Int := x\nout f(i) as z", "WrongType", "a macro gives a stream, and its result is written as Int", "write Events[Int]"),
+    ("out delay(e, const(10, e)) as x", "WrongType", "delay takes how long it waits first", "delay(const(10, e), e)"),
+    ("out Set.contains(i, Set.empty[Int]) as x", "WrongType", "this is one of Int", "is the first argument: Set.contains(s, k)"),
+    ("out e == 5 as x", "WrongType", "a stream of Unit is meant", "const(1, e) has a number"),
     ("out b & b as x", "BadCharacter", "& is no operator", "write &&"),
     ("out b | b as x", "BadCharacter", "| is no operator", "write ||"),
     ("out i <> i as x", "Unexpected", "<> is no operator", "write !="),
@@ -135,16 +151,18 @@ def at_hand(starts):
 
 
 def of_macros(starts):
-    """The macros that a remedy says to copy are on that page, and what it says to write is accepted, and not silently wrong."""
+    """The macros and recipes that a remedy says to copy are there, and what it says to write is accepted, and not silently wrong."""
     for name, helps in ELSEWHERE.items():
         if page := re.search("the macro (\\w+) of the page MACROS.md", helps):
             with open(os.path.join(TOP, "docs", "MACROS.md"), encoding="utf-8") as opened:
                 heads = re.findall("^## (.*)$", opened.read(), re.M)
             starts.tried.holds(f"the macro for {name}", any(page[1] in head.split() for head in heads), heads)
         elif definition := re.match("write (def (\\w+): .*)", helps):
-            starts.write(f"{name}.tsl", f"in x: Events[Int]\n{definition[1]}\nout {definition[2]}\n")
+            starts.write(f"{name}.tsl", f"in x: Events[Int]\n{definition[1]}\nout {definition[2]}\nout x\n")
             ended = starts.extras("check", f"{name}.tsl")
             starts.tried.holds(f"what helps with {name} is accepted", ended.status == 0 and not ended.err, ended)
+        for recipe in re.findall("the recipe (\\w+) of the cookbook", helps):
+            starts.tried.holds(f"the recipe for {name}", os.path.isfile(os.path.join(TOP, "examples", f"{recipe}.tsl")), recipe)
 
 
 def no_slip(starts):

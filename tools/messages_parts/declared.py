@@ -37,11 +37,12 @@ OF_STREAMS = ("merge", "default", "last", "delay", "time", "const", "filter", "l
 OF_STREAMS += ("Queue.enqueue", "Queue.dequeue")
 OF_OPTIONS = ("isSome", "isNone", "getSome")
 # Names of TeSSLa's library, or of other languages, and what stands in their place here.
+CLOCK = "write def tick: Events[Unit] := delay(const(10, merge(unit, tick)), unit)"
 ELSEWHERE = {
-    "prev": "write last(x, x)",
+    **dict.fromkeys(("prev", "previous", "pre", "old"), "write last(x, x)"),
     "count": "write def n: Events[Int] := merge(merge(last(n, x), 0) + const(1, x), 0)",
     "sum": "write def s: Events[Int] := merge(merge(last(s, x), 0) + x, 0)",
-    **{name: f"copy the macro {name} of the page MACROS.md" for name in ("highest", "first", "pure", "rising", "falling", "on", "since", "sample", "rate", "debounce", "hold")},
+    **{name: f"copy the macro {name} of the page MACROS.md" for name in ("highest", "first", "pure", "rising", "falling", "on", "since", "sample", "rate", "throttle", "debounce", "hold", "later")},
     "changes": "copy the macro pure of the page MACROS.md",
     "resetCount": "copy it from the page FROM_TESSLA.md",
     "when": "write last(v, r) for the value before, or filter(e, c) for the events where c is true",
@@ -64,6 +65,16 @@ ELSEWHERE = {
     "min": "write def min(a: Int, b: Int): Int := if a < b then a else b",
     "abs": "write def abs(a: Int): Int := if a < 0 then -a else a",
     "elif": "write else if",
+    **dict.fromkeys(("average", "avg", "mean"), "copy the recipe average of the cookbook, or latest for many values"),
+    **dict.fromkeys(("window", "sliding"), "copy the recipe window of the cookbook, or recent for numbers of events"),
+    **dict.fromkeys(("every", "clock", "periodic", "interval", "tick"), CLOCK),
+    **dict.fromkeys(("now", "timestamp"), "write time(e), the time of each event of e"),
+    **dict.fromkeys(("toString", "str", "string", "show"), "numbers do not become texts: write an output for each"),
+    **dict.fromkeys(("always", "globally", "forall", "never", "assert", "G"), "write an output of what is wrong: out filter(c, !c) as wrong"),
+    **dict.fromkeys(("eventually", "finally", "F"), "write a limit of time, as the recipe timeout of the cookbook does"),
+    **dict.fromkeys(("size", "length", "len"), "write Set.size(s), Map.size(m), Queue.size(q) or String.size(a)"),
+    "contains": "write Set.contains(s, k) or Map.contains(m, k)",
+    "concat": "write String.concat(a, b)",
 }
 COUNTED = ("no argument", "one argument", "two arguments", "three arguments", "four arguments")
 
@@ -151,6 +162,8 @@ def of_type(text, told):
     have, want = found.groups()
     if want == "literal":
         return of_literal(text, have)
+    if have == "function":
+        return answer("braces stand around the body of a macro alone", "write the expression without them, and its parts as definitions of their own")
     name, around = text.name_here(), text.around()
     function = around if around is not None and around.is_of_values() and text.at > around.at else None
     if function is not None:
@@ -173,6 +186,9 @@ def of_value_function(name, function, have, want):
         return answer(f"a value that may be absent is meant, and this is {have}", "write Some(..) around it")
     if have == f"Option[{want}]":
         return answer(f"a value is meant, and this may be absent: {have}", "write getSome(..) where isSome(..) holds")
+    if want == f"Events[{have}]":
+        helps = f"write {have} as the type of its result, or Events[..] for its parameters: then it is a macro"
+        return answer(f"{short(function.name)} is a function of values, and gives a value", helps)
     return of_texts(have, want)
 
 
@@ -193,7 +209,12 @@ def of_stream(text, name, have, want):
         return of_merge(text, have, want)
     if want.startswith("one of"):
         inner = have[len("Events[") : -1] if is_stream(have) else have
-        return answer(f"a stream of another type is meant: this is one of {short(inner)}", f"it may be {any_of(want)}")
+        first = f", and is the first argument: {name}({', '.join(BUILT_IN[name])})" if name in BUILT_IN and "," not in want else ""
+        return answer(f"a stream of another type is meant: this is one of {short(inner)}", f"it may be {any_of(want)}{first}")
+    if have == f"Events[{want}]":
+        return answer(f"a macro gives a stream, and its result is written as {short(want)}", f"write {short(have)}")
+    if name == "delay" and want == "Events[Int]":
+        return answer(f"delay takes how long it waits first, a stream of Int, and this is {short(have)}", "write delay(const(10, e), e)")
     return of_texts(have, want)
 
 
@@ -219,7 +240,8 @@ def of_texts(have, want):
         ("Bool", "Int"): "change the part, or write if c then 1 else 0 of it",
         ("Int", "Bool"): "change the part, or compare it: x != 0",
     }
-    helps = helps.get((found, asked), "change the part")
+    of_unit = "a Unit only comes, and has nothing to calculate with: const(1, e) has a number wherever e comes"
+    helps = of_unit if "Unit" in (found, asked) else helps.get((found, asked), "change the part")
     return answer(f"a {what} of {asked} is meant, and a part of this operation is a {what} of {found}", helps)
 
 

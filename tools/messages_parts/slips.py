@@ -68,6 +68,10 @@ TABLE = (
     (r">$", r">", "this is no operator", "there are < <= > >= and no shifts"),
     (r"(\+|-|\*|/|%)$", r"=", "{b1}= is no operator", "a stream is defined once: write `def NEW := OLD {b1} ..`"),
     (r"\*$", r"\*", "** is no operator", "write the product out: x * x"),
+    (r"-$", r">", "-> is no operator", "write !a || b where a implies b, and Map.add(m, k, v) for a key and its value"),
+    (r"[\w)\"\]]$", r"=<", "=< is no operator", "write <="),
+    (rf"\b(?!(?:if|then|else|in|def|out|as)\b)({WORD})\($", r"\)", "{b1} is called with nothing", "write what it is called with, as in time(e), or the name alone where it has no parameters"),
+    (r"(?:^|\n)[ \t]*(?:def|out) [^()\n]*(?:\([^()\n]*\)[^()\n]*)*$", r"\)", "this ) closes nothing", "take it away, or write ( where it begins"),
     (r"\+$", r"\+", "++ is no operator", "write + 1; texts are joined by String.concat"),
     (r":$", r"=", "`: =` are two tokens", "write := without a blank"),
     (rf"(?:\)|{WORD})$", r"=>", "functions without a name are not there, and >= compares", "give it a name: def f(x: Option[Int]): Option[Int] := .., and write f"),
@@ -226,6 +230,8 @@ def of_item(text, before, after):
     if text.begins_line() and before and after[:1] in ("-", "("):
         return answer(f"a {after[0]} that begins a line begins something new", f"put the {after[0]} at the end of the line before")
     word = re.match(WORD, after)
+    if word and word[0] not in KEYWORDS and text.begins_line() and re.search(r"[\w)\"\]]$", before):
+        return answer(f"{short(word[0])} begins no item", "begin an item with in, def or out; where a line goes on, an operator or a comma stands between")
     if word and word[0] not in KEYWORDS and re.search(r"[\w)\"\]]$", before):
         return answer(f"{short(word[0])} follows what is complete", "an operator or a comma is missing before it, or it is an item and begins with in, def or out")
     return None
@@ -233,7 +239,7 @@ def of_item(text, before, after):
 
 def of_equals(text, before, after):
     """A single = in an expression."""
-    if re.match(r"=(?![=>])", after) and re.search(r"[\w)\"\]]$", before) and not re.search(rf"\bdef {WORD}$", before):
+    if re.match(r"=(?![=<>])", after) and re.search(r"[\w)\"\]]$", before) and not re.search(rf"\bdef {WORD}$", before):
         return answer("= defines, and compares nothing", "write ==")
     return None
 
