@@ -104,9 +104,9 @@ class Tally:
         else:
             self.skips(what, why, number)
 
-    def end(self):
-        """Prints the closing lines and gives the status."""
-        if not self.passed and not self.failed:
+    def end(self, may_skip_all=False):
+        """Prints the closing lines and gives the status. Where nothing was tried, that is a failure, unless all of it may be left out, and was."""
+        if not self.passed and not self.failed and not (may_skip_all and self.skipped):
             self.fails("all: nothing was tried")
         for note in self.notes:
             print(note)
