@@ -1,6 +1,8 @@
-// Which updates of a small flat system happen in place, with ample memory.
+// What is asked of small flat systems before updates are chosen, with ample memory.
 
 mod of_alias_analysis;
+mod of_trigger_diagram;
+mod of_trigger_formulas;
 
 ghost use Rattle.std.specs.Prelude.{IfOk, OnOk};
 ghost use Rattle.flat_core.specs.WellFormed.{IsWellFormed};

@@ -1,5 +1,7 @@
-// Small flat systems, with ample memory.
+// Each call with ample memory, on a small system or on the sample of `trigger_starts`.
 
-mod of_program_text;
-mod of_trigger_diagram;
-mod of_trigger_formulas;
+mod of_event_why;
+mod of_flat_slice;
+mod of_plain_solver;
+mod of_register_code;
+mod small_system;

@@ -1,4 +1,4 @@
-//! Tests of the engine on flat systems that no source makes. There is nothing but tests: the check of a crate's tests proves the whole
+//! A test of the engine's states. There is nothing but a test: the check of a crate's tests proves the whole
 //! crate again, and here only they are proved.
 #![tactic(auto)]
 

@@ -1,4 +1,3 @@
-// Runs of small systems of queues, with ample memory.
+// A monitor that goes on from a state, with ample memory.
 
-mod of_queues;
-mod systems;
+mod of_states;

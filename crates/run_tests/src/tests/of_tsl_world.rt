@@ -1,4 +1,4 @@
-// Each public call once, with ample memory: no clause says that memory was had.
+// Worlds that make files, with ample memory: no clause says that memory was had.
 ghost use Rattle.std.specs.Prelude.{◌≡◌, false};
 ghost use Rattle.tsl_world.specs.Standing.{is_open, is_writable};
 
@@ -7,105 +7,60 @@ use std::test::Fail;
 use tsl_value::bytes::Bytes;
 use tsl_value::memory::NoMemory;
 use tsl_value::text::Text;
-use tsl_world::{
-    Calls, CalmWorld, Channel, Failed, Files, NamedFile, RealWorld, Sizes, Slot, World,
-};
+use tsl_world::{CalmWorld, Channel, Failed, Files, NamedFile, RealWorld, Slot, World};
 
-fn named(alloc: Global, name: &str, text: &str) -> Result<NamedFile, NoMemory> {
-    Ok(NamedFile {
-        name: Text::from_str(alloc, name)?,
-        bytes: Bytes::from_slice(alloc, text.as_bytes())?,
-    })
-}
-
-// Two files of one name, of which the first is meant.
+/// Two files of one name, of which the first is meant.
 fn two_files(alloc: Global) -> Result<Files, NoMemory> {
     let mut files = Files::new(alloc);
-    files.push(named(alloc, "a", "xyz")?)?;
-    files.push(named(alloc, "a", "later")?)?;
+    for text in ["xyz", "later"] {
+        files.push(NamedFile {
+            name: Text::from_str(alloc, "a")?,
+            bytes: Bytes::from_slice(alloc, text.as_bytes())?,
+        })?;
+    }
     Ok(files)
 }
 
-// Opens a file, and reads twice: the counts, and the first byte of the second piece.
-fn reads<W: World>(world: &mut W, name: &str) -> Result<(usize, usize, u8), Failed>
-    requires { is_open (W.standing world.old) Slot.Trace ≡ false }
+/// Opens a file and reads twice, makes another and writes to it once: the counts, and before the last the first byte of the second piece.
+fn visits<W: World>(
+    world: &mut W,
+    read: &str,
+    made: &str,
+) -> Result<(usize, usize, u8, usize), Failed>
+    requires closed { is_open (W.standing world.old) Slot.Trace ≡ false }
+    requires unmade { is_writable (W.standing world.old) Channel.State ≡ false }
 {
     let mut buf = [0u8; 8];
-    world.open(Slot::Trace, name)?;
+    world.open(Slot::Trace, read)?;
     let first = world.read(Slot::Trace, &mut buf)?;
     let second = world.read(Slot::Trace, &mut buf)?;
-    Ok((first, second, buf[0]))
+    world.create(Channel::State, made)?;
+    let written = world.write(Channel::State, b"state")?;
+    Ok((first, second, buf[0], written))
 }
 
-// Makes a file, and writes to it once.
-fn makes<W: World>(world: &mut W, name: &str) -> Result<usize, Failed>
-    requires { is_writable (W.standing world.old) Channel.State ≡ false }
-{
-    world.create(Channel::State, name)?;
-    Ok(world.write(Channel::State, b"state")?)
-}
-
-// Writes to `Out` and to `Err`.
-fn writes<W: World>(world: &mut W) -> Result<(usize, usize), Failed> {
-    let out = world.write(Channel::Out, b"out\n")?;
-    let err = world.write(Channel::Err, b"err\n")?;
-    Ok((out, err))
-}
-
+// An absent file is empty for it.
 #[test]
-fn lists_have_what_is_pushed(rt: HostRuntime) -> Result<(), Fail> {
-    let files = two_files(rt.alloc())?;
-    let mut calls = Calls::new(rt.alloc());
-    calls.push(7)?;
-    let mut sizes = Sizes::new(rt.alloc());
-    sizes.push(3)?;
-    assert_eq!(rt; (files.len(), calls.len(), sizes.len()), (2, 1, 1));
-    assert_eq!(rt; calls.get(0).copied(), Some(7));
-    assert_eq!(rt; sizes.get(0).copied(), Some(3));
-    let second = files.get(1).map_or(0, |file| file.bytes.len());
-    assert_eq!(rt; second, 5);
-    Ok(())
-}
-
-#[test]
-fn calm_without_failures(rt: HostRuntime) -> Result<(), Fail> {
-    let alloc = rt.alloc();
-    let mut world = CalmWorld::new(alloc, two_files(alloc)?, 2)?;
-    assert_eq!(rt; writes(&mut world), Ok((2, 2)));
-    assert!(rt; world.is_told());
-    assert_eq!(rt;
-        (world.out(), world.err()),
-        (b"ou".as_slice(), b"er".as_slice())
-    );
-    Ok(())
-}
-
-#[test]
-fn calm_at_an_absent_file(rt: HostRuntime) -> Result<(), Fail> {
-    let alloc = rt.alloc();
-    let mut world = CalmWorld::new(alloc, two_files(alloc)?, 2)?;
-    assert_eq!(rt; reads(&mut world, "absent"), Ok((0, 0, 0)));
-    assert!(rt; world.is_told());
-    let mut other = CalmWorld::new(alloc, two_files(alloc)?, 2)?;
-    assert_eq!(rt; makes(&mut other, "s"), Ok(2));
-    assert!(rt; other.is_told());
+fn a_calm_world_never_fails(rt: HostRuntime) -> Result<(), Fail> {
+    let mut world = CalmWorld::new(rt.alloc(), two_files(rt.alloc())?, 2)?;
+    assert!(rt; visits(&mut world, "a", "s") == Ok((2, 1, b'z', 2)));
+    assert!(rt; world.write(Channel::Err, b"err\n") == Ok(2));
+    assert!(rt; world.is_told() && world.err() == b"er".as_slice());
+    let mut other = CalmWorld::new(rt.alloc(), Files::new(rt.alloc()), 2)?;
+    assert!(rt; visits(&mut other, "absent", "s") == Ok((0, 0, 0, 2)));
     Ok(())
 }
 
 // The trusted edge, over devices that every host has.
 #[test]
 fn real_devices(rt: HostRuntime) -> Result<(), Fail> {
-    for (name, answer) in [("/dev/absent", Err(Failed)), ("/dev/zero", Ok((8, 8, 0)))] {
-        assert_eq!(rt;
-            reads(&mut RealWorld::new(rt.clone()?), name),
-            answer,
-            "{name}"
-        );
+    for (read, made, answer) in [
+        ("/dev/zero", "/dev/null", Ok((8, 8, 0, 5))),
+        ("/dev/absent", "/dev/null", Err(Failed)),
+        ("/dev/zero", "/dev/full", Err(Failed)),
+    ] {
+        let mut world = RealWorld::new(rt.clone()?);
+        assert!(rt; visits(&mut world, read, made) == answer);
     }
-    assert_eq!(rt; makes(&mut RealWorld::new(rt.clone()?), "/dev/null"), Ok(5));
-    assert_eq!(rt;
-        makes(&mut RealWorld::new(rt.clone()?), "/dev/full"),
-        Err(Failed)
-    );
     Ok(())
 }

@@ -26,38 +26,11 @@ fn sets_are_copied(rt: HostRuntime) -> Result<(), Fail> {
     let one = store.copy_add(0, none, &Scalar::Int(2), &Scalar::Unit)?;
     let less = store.copy_remove(1, one, &Scalar::Int(2))?;
     let printed = text(rt.alloc(), &store, less)?;
-    assert_eq!(rt; printed.as_slice(), b"Set()".as_slice());
+    assert!(rt; printed.as_slice() == b"Set()".as_slice());
     let same = store.copy_remove(1, one, &Scalar::Int(7))?;
     let printed = text(rt.alloc(), &store, same)?;
-    assert_eq!(rt; printed.as_slice(), b"Set(2)".as_slice());
-    assert_eq!(rt; store.ledger(0), 0);
-    assert_eq!(rt; store.ledger(1), 2);
-    Ok(())
-}
-
-#[test]
-fn keys_are_added_in_place(rt: HostRuntime) -> Result<(), Fail> {
-    let mut store = Store::new(rt.alloc(), 1)?;
-    let cell = store.empty(ValueType::Map(KeyType::Int, ScalarType::Bool))?;
-    store.add_in_place(cell, &Scalar::Int(3), &Scalar::Bool(true))?;
-    store.add_in_place(cell, &Scalar::Int(3), &Scalar::Bool(false))?;
-    let printed = text(rt.alloc(), &store, cell)?;
-    assert_eq!(rt; printed.as_slice(), b"Map(3 -> false)".as_slice());
-    assert_eq!(rt; store.ledger(0), 0);
-    Ok(())
-}
-
-#[test]
-fn keys_are_removed_in_place(rt: HostRuntime) -> Result<(), Fail> {
-    let mut store = Store::new(rt.alloc(), 0)?;
-    let cell = store.empty(ValueType::Set(KeyType::Int))?;
-    store.add_in_place(cell, &Scalar::Int(2), &Scalar::Unit)?;
-    store.remove_in_place(cell, &Scalar::Int(7));
-    let printed = text(rt.alloc(), &store, cell)?;
-    assert_eq!(rt; printed.as_slice(), b"Set(2)".as_slice());
-    store.remove_in_place(cell, &Scalar::Int(2));
-    let printed = text(rt.alloc(), &store, cell)?;
-    assert_eq!(rt; printed.as_slice(), b"Set()".as_slice());
+    assert!(rt; printed.as_slice() == b"Set(2)".as_slice());
+    assert!(rt; store.ledger(0) == 0 && store.ledger(1) == 2);
     Ok(())
 }
 
@@ -68,10 +41,10 @@ fn cells_are_dropped(rt: HostRuntime) -> Result<(), Fail> {
     let second = store.empty(ValueType::Set(KeyType::Bool))?;
     let third = store.empty(ValueType::Map(KeyType::Int, ScalarType::Unit))?;
     store.keep_only(&[third, first]);
-    assert_eq!(rt; store.count(), 2);
+    assert!(rt; store.count() == 2);
     store.keep_only(&[second, third]);
-    assert_eq!(rt; store.count(), 1);
+    assert!(rt; store.count() == 1);
     let printed = text(rt.alloc(), &store, third)?;
-    assert_eq!(rt; printed.as_slice(), b"Map()".as_slice());
+    assert!(rt; printed.as_slice() == b"Map()".as_slice());
     Ok(())
 }
