@@ -37,18 +37,8 @@ none_called : (name : List ℕ) (others : List Equation) → AllByRecursion (λ 
 none_called name [] all = tt
 none_called name (e ∷ es) all = (not_called name e all.0, none_called name es all.1)
 
-module _ (s t : System) (others : List Equation) (same : t.equations ≡ s.equations ++ others) (all : AllByRecursion (λ (e : Equation). e.op ≢ op.Input) others) where
-  called_alike : (name : List ℕ) → input_called t name ≡ input_called s name
-  called_alike name = ap (position_from (is_input_called name) 0) same ∙ place_before (is_input_called name) s.equations others 0 (none_called name others all)
-
-  value_alike : (name : List ℕ) (i : ℕ) (value : Option (List ℕ)) → input_called s name ≡ Some i → value_at t i value ≡ value_at s i value
-  value_alike name i value called =
-      let at = found (is_input_called name) s.equations 0 i called in
-      let place : at.after ≡ i = let it = at.place_is in omega arith in
-      let here : slice_get s.equations i ≡ Some at.at = subst (λ (k : ℕ). slice_get s.equations k ≡ Some at.at) place at.is in
-      let there : slice_get t.equations i ≡ Some at.at = ap (λ (es : List Equation). slice_get es i) same ∙ get_left s.equations others i at.at here in
-      ap (option_and_then (λ (e : Equation). value_of e.of value)) (there ∙ sym here)
-
+-- ---- systems in which each name is that of the same input, which takes the same values
+module _ (s t : System) (called_alike : (name : List ℕ) → input_called t name ≡ input_called s name) (value_alike : (name : List ℕ) (i : ℕ) (value : Option (List ℕ)) → input_called s name ≡ Some i → value_at t i value ≡ value_at s i value) where
   -- ---- a line
   module _ (strict : Bool) (had : ℕ → ℕ → Bool) (last n : ℕ) where
     addressed_alike : (time : ℕ) (name : List ℕ) (value : Option (List ℕ)) (o : Option ℕ) → input_called s name ≡ o →
@@ -87,12 +77,25 @@ module _ (s t : System) (others : List Equation) (same : t.equations ≡ s.equat
       ∙ rest_alike (judged s strict (had_event before) (last_time before) n bytes) (λ l. read t strict (before ++ option_to_list l) (n + 1) more) (λ l. read s strict (before ++ option_to_list l) (n + 1) more)
       (λ l. read_alike strict (before ++ option_to_list l) (n + 1) more)
 
-  reading_alike : (strict : Bool) (limit : ℕ) (bytes : List ℕ) (ended : Bool) → reading t strict limit bytes ended ≡ reading s strict limit bytes ended
+  pub reading_alike : (strict : Bool) (limit : ℕ) (bytes : List ℕ) (ended : Bool) → reading t strict limit bytes ended ≡ reading s strict limit bytes ended
   unfolding reading
   reading_alike strict limit bytes ended =
       let beyond = slice_get bytes limit in
       let kept = take limit bytes in
       ap (λ (r : Reading). limited r (unfinished beyond (1 + length (cut kept).0) (cut kept).1)) (read_alike strict [] 1 (lines_of kept (ended && is_none beyond)))
 
+-- ---- further equations that are no inputs
+module _ (s t : System) (others : List Equation) (same : t.equations ≡ s.equations ++ others) (all : AllByRecursion (λ (e : Equation). e.op ≢ op.Input) others) where
+  called_same : (name : List ℕ) → input_called t name ≡ input_called s name
+  called_same name = ap (position_from (is_input_called name) 0) same ∙ place_before (is_input_called name) s.equations others 0 (none_called name others all)
+
+  value_same : (name : List ℕ) (i : ℕ) (value : Option (List ℕ)) → input_called s name ≡ Some i → value_at t i value ≡ value_at s i value
+  value_same name i value called =
+      let at = found (is_input_called name) s.equations 0 i called in
+      let place : at.after ≡ i = let it = at.place_is in omega arith in
+      let here : slice_get s.equations i ≡ Some at.at = subst (λ (k : ℕ). slice_get s.equations k ≡ Some at.at) place at.is in
+      let there : slice_get t.equations i ≡ Some at.at = ap (λ (es : List Equation). slice_get es i) same ∙ get_left s.equations others i at.at here in
+      ap (option_and_then (λ (e : Equation). value_of e.of value)) (there ∙ sym here)
+
 pub others_leave_reading : OthersLeaveReading
-others_leave_reading s t others strict limit bytes ended same all = reading_alike s t others same all strict limit bytes ended
+others_leave_reading s t others strict limit bytes ended same all = reading_alike s t (called_same s t others same all) (value_same s t others same all) strict limit bytes ended

@@ -9,7 +9,7 @@ mod last;
 pub mod laws;
 pub mod limits;
 mod line;
-mod name;
+pub mod name;
 pub mod next;
 mod plain;
 pub mod reader;

@@ -11,7 +11,7 @@ use std::str;
 
 /// The name that bytes spell, of any length, where they spell one.
 #[tactic(auto, unfolding(crate::specs::Form::is_name))]
-pub(crate) fn name_of(bytes: &[u8]) -> Option<&str>
+pub fn name_of(bytes: &[u8]) -> Option<&str>
     ensures { option_map (λ n. n.now) result ≡ (if is_name bytes.now then Some bytes.now else None) }
 {
     match str::from_utf8(bytes) {

@@ -91,7 +91,7 @@ impl<'f> TraceReader<'f> {
     ghost use Rattle.flat_core.specs.System.{System};
     ghost use Rattle.flat_core.specs.Line.{Line};
     ghost use Rattle.trace_reader.specs.inner.Plain.{StandsPlain};
-    ghost use Rattle.trace_reader.specs.inner.AnyReader.{AreAsSet, HasAnswered, HasFed};
+    ghost use Rattle.trace_reader.specs.inner.AnyReader.{AreAsSet, HasAnswered, HasEnded, HasFed};
     ghost use Rattle.trace_reader.specs.inner.Reader.{AwaitsMore, HasLine, at_fault, last_counts};
     ghost use Rattle.trace_reader.specs.inner.Saved.{FitsReader, HasState, IsReaderAfter};
     ghost use Rattle.trace_reader.specs.Reading.{first_line, reading};
@@ -207,6 +207,7 @@ impl<'f> TraceReader<'f> {
     pub fn finish(&mut self)
         ensures reads { (s : System) (strict : Bool) (limit : ℕ) (fed : List ℕ) (given : List Line) →
             Reads self.old s strict limit fed given false → Reads self.new s strict limit fed given true }
+        ensures ended { self.old.ended ≡ false → HasEnded self.old self.new }
         ensures again { self.old.ended ≡ true → self.new ≡ self.old }
         ensures as_set { AreAsSet self.old self.new }
     {

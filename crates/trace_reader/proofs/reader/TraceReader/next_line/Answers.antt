@@ -62,13 +62,13 @@ returns-in-Some-line_len-clause-fewer c =
 
 pub returns-in-Some-plain_next-clause-answered : goal.returns-in-Some-plain_next-clause-answered
 returns-in-Some-plain_next-clause-answered c =
-    answers_line c.args.self.now c.take_plain.new.self c.in-Some-plain_next.line.len c.take_plain.result c.in-Some-plain_next.ensures.some c.take_plain.ensures
+    answers_line c.args.self.now c.take_plain.new.self c.in-Some-plain_next.line.len c.take_plain.result c.in-Some-plain_next.ensures.line c.in-Some-plain_next.ensures.some c.take_plain.ensures
 
 pub returns-in-Some-line_len-clause-answered : goal.returns-in-Some-line_len-clause-answered
 returns-in-Some-line_len-clause-answered c =
-    let takes = rw (c.line_len.ensures.same, c.self.view_is) at c.take_line.ensures in
-    let some = ap (λ (r : Reader). r.unread) c.self.view_is in
-    answers_line c.args.self.now c.take_line.new.self c.in-Some-line_len.len c.take_line.result (rw some at c.in-Some-line_len.ensures.some) takes
+    let has = ap (first_line c.self.inside.unread) (ap (λ (r : Reader). last_counts r) c.self.view_is ∙ sym c.last_counts-last_counts.ensures) ∙ c.in-Some-line_len.ensures.line in
+    let takes = rw c.line_len.ensures.same at c.take_line.ensures in
+    rw (← c.self.view_is) (answers_line _ c.take_line.new.self c.in-Some-line_len.len c.take_line.result has c.in-Some-line_len.ensures.some takes)
 
 pub returns-in-None-clause-answered : goal.returns-in-None-clause-answered
 returns-in-None-clause-answered c =
