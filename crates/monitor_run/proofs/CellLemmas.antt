@@ -5,8 +5,7 @@ use Rattle.std.specs.Prelude.{IsTrue, is_some, unwrap_or}
 use Rattle.std.specs.Option.{option_and_then}
 use Rattle.std.specs.FinMap as finite_map
 use Rattle.tsl_value.specs.declared.scalar.ValueType.{ValueType}
-use Rattle.tsl_value.specs.declared.scalar.ValueType.TheVariants as value_type
-use Rattle.tsl_value.specs.View.{View, Plain, Keyed, Mapped, is_of}
+use Rattle.tsl_value.specs.View.{View, Plain, is_of}
 use Rattle.lift_func.specs.inner.Cells as cells
 use Rattle.lift_func.specs.inner.Cells.{Cells, IsLive, HoldsLive, view_at}
 use Rattle.tsl_value.specs.declared.scalar.Scalar.TheVariants as scalar

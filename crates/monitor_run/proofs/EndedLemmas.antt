@@ -10,10 +10,9 @@ use Rattle.std.specs.Ordering.{eq_by_cmp, nat_cmp}
 use Rattle.std.specs.declared.cmp.Ordering.TheVariants.{Equal}
 use Rattle.std.proofs.Math.Bool.{or_assoc}
 use Rattle.std.proofs.lemmas.Option.{same_Some}
-use Rattle.tsl_value.specs.View.{View, Plain, Keyed, Mapped}
+use Rattle.tsl_value.specs.View.{View, Plain}
 use Rattle.tsl_value.specs.declared.scalar.Scalar.TheVariants as scalar
 use Rattle.tsl_value.specs.declared.scalar.ValueType.{ValueType}
-use Rattle.tsl_value.specs.declared.scalar.ValueType.TheVariants as value_type
 use Rattle.lift_func.specs.declared.register.Register.{Register}
 use Rattle.lift_func.specs.declared.register.Register.TheVariants as register
 use Rattle.lift_func.specs.inner.Cells.{Cells, HoldsLive, IsLive, held, view_at}
@@ -89,7 +88,7 @@ cell_listed last (k ∷ keeps) i h there is = listed_append (cell_in (register_a
 ]
 
 -- each kept register with a cell is of an aggregate type
-few_cells_in : (s : System) (last : List Register) (keeps : List ℕ) → AllByRecursion (λ i. (h : ℕ) → register_at last i ≡ register.Aggregate h → is_stored_type (equation s i) ≡ true) keeps → length (cells_in last keeps) ≤ length (filter (λ i. is_stored_type (equation s i)) keeps)
+pub few_cells_in : (s : System) (last : List Register) (keeps : List ℕ) → AllByRecursion (λ i. (h : ℕ) → register_at last i ≡ register.Aggregate h → is_stored_type (equation s i) ≡ true) keeps → length (cells_in last keeps) ≤ length (filter (λ i. is_stored_type (equation s i)) keeps)
 few_cells_in s last [] all = omega arith
 few_cells_in s last (k ∷ keeps) all =
     let rest = few_cells_in s last keeps all.1 in

@@ -29,6 +29,7 @@ pub mod GapLemmas
 pub mod WholeLemmas
 pub mod PrintedInstant
 pub mod StepLemmas
+pub mod ShortLemmas
 pub mod MonitorLemmas
 pub mod AnyStep
 pub mod LawLemmas
@@ -38,4 +39,10 @@ pub mod SavedLemmas
 pub mod StateAfter
 pub mod OneState
 pub mod ShownStates
+pub mod Placed
+pub mod ContentLemmas
+pub mod FilledLemmas
+pub mod RestoredLemmas
+pub mod ResumedLemmas
+pub mod FitLemmas
 pub mod ResumeLemmas

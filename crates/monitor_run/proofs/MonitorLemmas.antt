@@ -4,7 +4,7 @@ use Rattle.std.proofs.lemmas.Bool.{cases_Bool, cases_lt, and_parts, eq-eqb, eqb-
 use Rattle.std.proofs.lemmas.List.{length-replicate}
 use Rattle.std.proofs.lemmas.List.Elements.{Contains-append_cases, Contains-append_left, Contains-append_right}
 use Rattle.tsl_value.proofs.Lists.{none_in_nil}
-use Rattle.std.specs.Prelude.{◌≢◌, if◌then◌else◌, slice_index, slice_index_or}
+use Rattle.std.specs.Prelude.{◌≢◌, if◌then◌else◌, slice_index, slice_index_or, unwrap_or}
 use Rattle.monitor_run.specs.inner.Visits.{IsAtRest}
 use Rattle.std.specs.Option.{option_or}
 use Rattle.std.specs.List.{AllByRecursion, Contains}
@@ -12,7 +12,7 @@ use Rattle.std.specs.FinMap as finite_map
 use Rattle.tsl_value.specs.declared.scalar.Scalar.{Scalar}
 use Rattle.tsl_value.specs.View.{View, Plain}
 use Rattle.flat_core.specs.Case.{Streams}
-use Rattle.flat_core.specs.Complete.{IsFlat}
+use Rattle.flat_core.specs.Complete.{IsFlat, IsShort}
 use Rattle.flat_core.specs.Fault.{is_faulty, root_at}
 use Rattle.alias_rules.specs.Fine.{IsFinePlan}
 use Rattle.flat_core.specs.Kept.{is_kept}
@@ -21,6 +21,7 @@ use Rattle.register_machine.specs.Run.{Instant, root_seen}
 use Rattle.register_machine.specs.Stands.{RunsTo}
 use Rattle.register_machine.specs.Tidy.{IsTidy}
 use Rattle.register_machine.proofs.LaterRuns.{later_leave}
+use Rattle.register_machine.proofs.ShortRuns.{instants_keep}
 use Rattle.register_machine.proofs.TidyRuns.{instants_tidy}
 use Rattle.lift_func.specs.declared.register.Register.TheVariants as register
 use Rattle.std.specs.Ordering.{nat_cmp}
@@ -33,11 +34,10 @@ use Rattle.flat_core.specs.Line.{Line, IsSorted, event_in, inputs_of}
 use Rattle.flat_core.specs.Solution.{Solves}
 use Rattle.flat_core.specs.System.{System, runs}
 use Rattle.flat_core.proofs.Members.{all_append, all_at, all_from}
-use Rattle.flat_core.proofs.Uniqueness.{all_by}
 use Rattle.flat_core.proofs.LaterLines.{leaves_earlier}
 use Rattle.monitor_run.specs.declared.machine.Machine.{Machine}
 use Rattle.monitor_run.specs.declared.run.Root.{Root}
-use Rattle.monitor_run.specs.inner.Given.{AreAt, AreEventLines, AreGiven, AreOnce, IsEventLine, line_of}
+use Rattle.monitor_run.specs.inner.Given.{AreAt, AreEventLines, AreGiven, AreOnce, IsEventLine, IsShortLine, line_of}
 use Rattle.monitor_run.specs.inner.Instant.{AreTimers, HasFaultedAt, HasRunInstant, IsInstantBegun, IsInstantText, ReachesFault, kept_of}
 use Rattle.monitor_run.specs.inner.Next.{Comes, NothingBefore}
 use Rattle.monitor_run.specs.inner.Machine.{HasRoom}
@@ -49,6 +49,7 @@ use Rattle.monitor_run.specs.inner.Steps.{AreAsSet, CanTake, HasFaulted, HasRun,
 use Rattle.monitor_run.specs.inner.Stored.{stored_count}
 use Rattle.flat_core.specs.Typed.{unit_type}
 use Rattle.monitor_run.proofs.RootLemmas.{least-at}
+use Rattle.monitor_run.proofs.ShortLemmas.{inputs_short}
 use Rattle.monitor_run.proofs.StepLemmas.{both_none, copied_now, inputs_now, inputs_open, is_first, one_more, quiet_to, run_on_now, shown, sound_before, sound_now, text_now}
 
 -- the state that a machine shows
@@ -59,7 +60,7 @@ pub record Shows (m : State) (machine : Machine) : Type 0 where
   pub ledger : machine.store.ledger ≡ m.ledger
 
 module _ (old : State) (ready : IsReady old) (t : ℕ) (comes_now : Comes old.next old.given old.timers t) (none : NothingBefore old.next old.given old.timers t) (below : t < old.bound) where
-  late : old.next ≤ t
+  pub late : old.next ≤ t
   late = from comes_now
     where
       from : Comes old.next old.given old.timers t → old.next ≤ t
@@ -211,6 +212,12 @@ module _ (old : State) (ready : IsReady old) (t : ℕ) (comes_now : Comes old.ne
         timers = subst (λ n. AreTimers new.system n new.timers) (sym next_is) (of_system (λ (q : System). AreTimers q (suc t) new.timers) (subst (AreTimers old.system (suc t)) shows_new.timers ran.sound.timers));
         few_cells = subst (λ c. finite_map.len c ≤ stored_count new.system) shows_new.cells (of_system (λ (q : System). finite_map.len after.store.cells ≤ stored_count q) ran.sound.few_cells);
         tidy = of_system (λ (q : System). IsTidy q (kept_state new)) (instants_tidy old.system (plan_of old) (inputs_of old.given) t (kept_state old) (kept_state new) ready.whole ready.fine ready.tidy (instant_given new machine after before out shows shows_new ran));
+        unbegun = λ none. let next = next_is in absurd (omega arith);
+        begun = λ more. let one = ran_is in omega arith;
+        short = record {
+          given = short_of b same;
+          kept = instants_keep old.system (plan_of old) (inputs_of old.given) t (kept_state old) (kept_state new) ready.whole (λ i. inputs_short old.given ready.short.given i t) ready.short.kept (instant_given new machine after before out shows shows_new ran);
+        };
       }
         where
           is_given : (b : Bool) → (ready.time == t) ≡ b → new.given ≡ (if b then [] else old.given)
@@ -242,12 +249,16 @@ module _ (old : State) (ready : IsReady old) (t : ℕ) (comes_now : Comes old.ne
           once_of true same = subst AreOnce (sym (is_given true same)) tt
           once_of false same = subst AreOnce (sym (is_given false same)) ready.once
 
+          short_of : (b : Bool) → (ready.time == t) ≡ b → AllByRecursion IsShortLine new.given
+          short_of true same = subst (AllByRecursion IsShortLine) (sym (is_given true same)) tt
+          short_of false same = subst (AllByRecursion IsShortLine) (sym (is_given false same)) ready.short.given
+
 -- no step is left
 pub none_left : (m : State) → IsReady m → (lines : List Line) → Stands m lines → NothingBefore m.next m.given m.timers m.bound → NoneIsLeft m lines
 none_left m ready lines stands none = λ w solves u low lt. quiet_to m ready lines stands m.bound ready.in_time ready.within w solves m.bound (omega arith) none u low lt
 
 -- ---- a new monitor
-value_none : (n i : ℕ) → register_at (replicate n register.Empty) i ≡ register.Empty
+pub value_none : (n i : ℕ) → register_at (replicate n register.Empty) i ≡ register.Empty
 value_none zero i = refl
 value_none (suc n) zero = refl
 value_none (suc n) (suc i) = value_none n i
@@ -268,7 +279,7 @@ rest_new m n k registers texts = record {
   texts = λ i. ap (λ ts. slice_index_or ts i []) texts ∙ same_all k i [];
 }
 
-number_none : (n i : ℕ) → slice_index (replicate n 0) i ≡ 0
+pub number_none : (n i : ℕ) → slice_index (replicate n 0) i ≡ 0
 number_none zero i = refl
 number_none (suc n) zero = refl
 number_none (suc n) (suc i) = number_none n i
@@ -407,7 +418,16 @@ ready_given m time i value ready can = record {
   timers = ready.timers;
   few_cells = ready.few_cells;
   tidy = ready.tidy;
+  unbegun = ready.unbegun;
+  begun = ready.begun;
+  short = record {
+    given = all_append IsShortLine m.given (line_of time i value ∷ []) ready.short.given ((λ j other is. subst IsShort (value_same is) can.short), tt);
+    kept = ready.short.kept;
+  };
 }
+  where
+    value_same : {j k : ℕ} {v w : Scalar} → ◌≡◌ {A = Option (ℕ × Scalar)} (Some (j, v)) (Some (k, w)) → v ≡ w
+    value_same {j} {k} {v} {w} e = ap (λ (o : Option (ℕ × Scalar)). (unwrap_or {T = ℕ × Scalar} o (j, v)).1) e
 
 pub ready_closed : (m : State) (bound : ℕ) → IsReady m → m.bound ≤ bound → bound ≤ 2 ^ 63 → IsReady (record m { bound = bound })
 ready_closed m bound ready more small = record {
@@ -428,6 +448,9 @@ ready_closed m bound ready more small = record {
   timers = ready.timers;
   few_cells = ready.few_cells;
   tidy = ready.tidy;
+  unbegun = ready.unbegun;
+  begun = ready.begun;
+  short = record { given = ready.short.given; kept = ready.short.kept };
 }
 
 pub ready_pushed : (m : State) (time i : ℕ) (value : Scalar) (given : List Line) → IsReady m → CanTake m time i value → given ≡ m.given ++ line_of time i value ∷ [] → IsReady (record m { given = given })
@@ -475,6 +498,15 @@ ready_new m n size whole fine some ran next bound given last timers cells ledger
     named = λ h view is. let nothing = sym (ap (λ c. finite_map.get c h) cells ∙ finite_map.get-empty nat_cmp h) ∙ is in absurd (cc);
     ledger = λ u none. ap (λ l. slice_index l u) ledger ∙ number_none n u;
     pending = λ i. inl (ap (λ ts. finite_map.get ts i) timers ∙ finite_map.get-empty nat_cmp i);
+  };
+  unbegun = λ none. ran;
+  begun = λ more. absurd (omega arith);
+  short = record {
+    given = subst (AllByRecursion IsShortLine) (sym given) tt;
+    kept = record {
+      lasts = λ v value is. let empty = sym (no_last v) ∙ is in absurd (cc);
+      cells = λ h view is. let nothing = sym (ap (λ c. finite_map.get c h) cells ∙ finite_map.get-empty nat_cmp h) ∙ is in absurd (cc);
+    };
   };
 }
   where

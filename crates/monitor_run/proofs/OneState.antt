@@ -1,15 +1,13 @@
 -- There is one state after some events: handles and the order in which events came don't show in it.
-use Rattle.std.proofs.Common.{◌≡◌, ◌==◌, ℕ, zero, suc, ◌+◌, ◌<◌, ◌≤◌, Bool, true, false, not, List, [], ◌∷◌, ◌++◌, length, map, Option, Some, None, refl, sym, ap, subst, ◌∙◌, cond, inl, inr, arith}
+use Rattle.std.proofs.Common.{◌≡◌, ◌==◌, ℕ, suc, ◌+◌, ◌<◌, Bool, true, false, not, List, [], ◌∷◌, ◌++◌, length, map, Option, Some, None, refl, sym, ap, subst, ◌∙◌, cond, inl, inr, arith}
 use Rattle.std.specs.Prelude.{if◌then◌else◌, nat_eq, nat_lt, position, slice_index, unwrap_or}
 use Rattle.std.proofs.lemmas.Bool.{cases_eq, cases_lt, eq-eqb, ne_eqb}
-use Rattle.std.specs.List.{filter, flat_map, position_or_len, prefix_len}
+use Rattle.std.specs.List.{filter, flat_map, prefix_len}
 use Rattle.std.specs.List.Sorted.{IsStrictlyIncreasing}
 use Rattle.std.specs.Option.{option_map}
-use Rattle.std.specs.FinMap as finite_map
 use Rattle.tsl_value.specs.declared.scalar.Scalar.{Scalar}
 use Rattle.tsl_value.specs.declared.scalar.Scalar.TheVariants as scalar
 use Rattle.tsl_value.specs.View.{View, Plain}
-use Rattle.aggregate_store.specs.declared.content.Content.{Content}
 use Rattle.aggregate_store.specs.Content.{content_of}
 use Rattle.lift_func.specs.inner.Cells.{view_at}
 use Rattle.flat_core.specs.Case.{Streams}
@@ -32,7 +30,7 @@ use Rattle.monitor_run.specs.declared.state.OpenEvent.{OpenEvent}
 use Rattle.monitor_run.specs.declared.state.SavedRegister.{SavedRegister}
 use Rattle.monitor_run.specs.declared.state.SavedRegister.TheVariants as saved
 use Rattle.monitor_run.specs.inner.Resumed.{IsShownAfter, IsStateAfter}
-use Rattle.monitor_run.specs.inner.Saved.{AreOpenAt, ShowsMachine, cell_held, firsts, held_cells, saved_of, value_of}
+use Rattle.monitor_run.specs.inner.Saved.{ShowsMachine, cell_held, firsts, held_cells, saved_of, value_of}
 use Rattle.monitor_run.specs.inner.State.{State, IsReady, plan_of}
 use Rattle.monitor_run.proofs.GapLemmas.{plan_ranked}
 use Rattle.monitor_run.proofs.StepLemmas.{ready_order}
@@ -62,7 +60,7 @@ module _ (r : Renaming) where
       from true rest = ap (λ l. r.to y ∷ l) rest
       from false rest = rest
 
-  firsts_renamed : (xs : List ℕ) → firsts (map r.to xs) ≡ map r.to (firsts xs)
+  pub firsts_renamed : (xs : List ℕ) → firsts (map r.to xs) ≡ map r.to (firsts xs)
   firsts_renamed [] = refl
   firsts_renamed (x ∷ xs) =
       ap (λ l. r.to x ∷ filter (λ y. not (y == r.to x)) l) (firsts_renamed xs) ∙ ap (λ l. r.to x ∷ l) (others_renamed x (firsts xs))
@@ -124,7 +122,7 @@ same_shown s r a b x y alike shows_x shows_y = (
 abbrev numbers : List OpenEvent → List ℕ
 numbers events = map (λ (e : OpenEvent). e.equation) events
 
-rest_rises : (x : ℕ) (xs : List ℕ) → IsStrictlyIncreasing (x ∷ xs) → IsStrictlyIncreasing xs
+pub rest_rises : (x : ℕ) (xs : List ℕ) → IsStrictlyIncreasing (x ∷ xs) → IsStrictlyIncreasing xs
 rest_rises x xs rises = λ k lt. let next : suc k + 1 ≡ suc (k + 1) = omega arith in subst (λ n. slice_index xs k < slice_index (x ∷ xs) n) next (rises (suc k) (omega arith))
 
 -- no event of a number below that of the first one
@@ -134,14 +132,14 @@ none_below i e (f ∷ events) rises lt =
     (λ k. if ne_eqb e.equation i (λ same. absurd (omega arith)) k then Some (Plain e.value) else value_of (f ∷ events) i)
     ∙ none_below i f events (rest_rises e.equation (numbers (f ∷ events)) rises) (let first = rises 0 (omega arith) in omega arith)
 
-none_after : (e : OpenEvent) (events : List OpenEvent) → IsStrictlyIncreasing (numbers (e ∷ events)) → value_of events e.equation ≡ None
+pub none_after : (e : OpenEvent) (events : List OpenEvent) → IsStrictlyIncreasing (numbers (e ∷ events)) → value_of events e.equation ≡ None
 none_after e [] rises = refl
 none_after e (f ∷ events) rises = none_below e.equation f events (rest_rises e.equation (numbers (f ∷ events)) rises) (rises 0 (omega arith))
 
-value_first : (e : OpenEvent) (events : List OpenEvent) → value_of (e ∷ events) e.equation ≡ Some (Plain e.value)
+pub value_first : (e : OpenEvent) (events : List OpenEvent) → value_of (e ∷ events) e.equation ≡ Some (Plain e.value)
 value_first e events = λ k. if eq-eqb e.equation e.equation refl k then Some (Plain e.value) else value_of events e.equation
 
-value_later : (e : OpenEvent) (events : List OpenEvent) (i : ℕ) → (e.equation ≡ i → ⊥) → value_of (e ∷ events) i ≡ value_of events i
+pub value_later : (e : OpenEvent) (events : List OpenEvent) (i : ℕ) → (e.equation ≡ i → ⊥) → value_of (e ∷ events) i ≡ value_of events i
 value_later e events i apart = λ k. if ne_eqb e.equation i apart k then Some (Plain e.value) else value_of events i
 
 no_value : {P : Type 0} {v : View} → Some v ≡ None → P

@@ -1,5 +1,5 @@
 -- What is taken out of a monitor is its state.
-use Rattle.std.proofs.Common.{◌≡◌, ◌==◌, ℕ, zero, suc, ◌+◌, ◌<◌, ◌≤◌, Bool, true, false, ◌&&◌, not, List, [], ◌∷◌, ◌++◌, length, map, Option, Some, None, refl, sym, ap, subst, ◌∙◌, append-nil, inl, inr, arith, IsTrue}
+use Rattle.std.proofs.Common.{◌≡◌, ◌==◌, ℕ, zero, suc, ◌+◌, ◌<◌, ◌≤◌, Bool, true, false, ◌&&◌, not, List, [], ◌∷◌, ◌++◌, length, map, Option, Some, None, refl, sym, ap, subst, ◌∙◌, inl, inr, arith}
 use Rattle.std.proofs.lemmas.Bool.{and_parts, cases_lt, eq-eqb, ne_eqb}
 use Rattle.std.proofs.lemmas.List.Elements.{All-from_recursion}
 use Rattle.std.proofs.lemmas.List.Kept.{IsStrictlyIncreasing-filter}
@@ -134,7 +134,7 @@ range_length : (a n : ℕ) → length (range_with_len a n) ≡ n
 range_length a zero = refl
 range_length a (suc n) = ap suc (range_length (a + 1) n)
 
-range_at : (a n k : ℕ) → k < n → slice_index (range_with_len a n) k ≡ a + k
+pub range_at : (a n k : ℕ) → k < n → slice_index (range_with_len a n) k ≡ a + k
 range_at a zero k low = absurd (omega arith)
 range_at a (suc n) zero low = omega arith
 range_at a (suc n) (suc k) low = let rest = range_at (a + 1) n k (omega arith) in omega arith

@@ -2,8 +2,8 @@
 use Rattle.std.proofs.Common.{◌≡◌, ◌==◌, ◌⊎◌, ℕ, suc, ◌+◌, ◌<◌, Bool, true, false, not, List, [], ◌∷◌, length, map, Contains, Option, Some, None, refl, sym, ap, subst, ◌∙◌, cond, inl, inr, arith}
 use Rattle.std.proofs.lemmas.Bool.{and_from, and_parts, cases_Bool, cases_eq, eq-eqb, lt-ltb, ne_eqb}
 use Rattle.std.proofs.lemmas.List.Elements.{Contains-append_cases, Contains-append_left, Contains-append_right}
-use Rattle.std.specs.Prelude.{if◌then◌else◌, nat_eq, nat_lt, position, unwrap_or}
-use Rattle.std.specs.List.{filter, flat_map, prefix_len}
+use Rattle.std.specs.Prelude.{if◌then◌else◌, nat_eq, position, unwrap_or}
+use Rattle.std.specs.List.{flat_map, prefix_len}
 use Rattle.std.specs.Option.{option_map}
 use Rattle.std.specs.FinMap as finite_map
 use Rattle.std.specs.Ordering.{nat_cmp}
@@ -29,14 +29,14 @@ use Rattle.register_machine.proofs.Cells.{without, without-other, without-there,
 use Rattle.register_machine.proofs.OneRun.{naming, no_change, swap, swap_first, swap_other}
 use Rattle.register_machine.proofs.Renamings.{one_to_one}
 use Rattle.monitor_run.specs.declared.state.MonitorState.{MonitorState}
-use Rattle.monitor_run.specs.declared.state.SavedRegister.{SavedRegister}
 use Rattle.monitor_run.specs.declared.state.SavedRegister.TheVariants as saved
+use Rattle.monitor_run.specs.inner.Resuming.{IsOnce}
 use Rattle.monitor_run.specs.inner.Saved.{ShowsMachine, cell_held, firsts, held_cells, saved_of}
 use Rattle.monitor_run.proofs.OneState.{place_renamed}
 
 -- ---- members
 
-in_map : {B : Type 0} (f : ℕ → B) (xs : List ℕ) (x : ℕ) → Contains xs x → Contains (map f xs) (f x)
+pub in_map : {B : Type 0} (f : ℕ → B) (xs : List ℕ) (x : ℕ) → Contains xs x → Contains (map f xs) (f x)
 in_map f [] x there = absurd (none_in_nil x there)
 in_map f (y ∷ xs) x there = elim (cons_cases y x xs there) [
   | inl same ↦ (0, omega arith, ap f same)
@@ -50,7 +50,7 @@ out_map f (x ∷ xs) y there = elim (cons_cases (f x) y (map f xs) there) [
   | inr after ↦ let rest = out_map f xs y after in (rest.0, later x rest.0 xs rest.1, rest.2)
 ]
 
-map_agree : {B : Type 0} (f g : ℕ → B) (xs : List ℕ) → ((x : ℕ) → Contains xs x → f x ≡ g x) → map f xs ≡ map g xs
+pub map_agree : {B : Type 0} (f g : ℕ → B) (xs : List ℕ) → ((x : ℕ) → Contains xs x → f x ≡ g x) → map f xs ≡ map g xs
 map_agree f g [] same = refl
 map_agree f g (x ∷ xs) same =
     let first = same x (0, omega arith, refl) in
@@ -73,10 +73,6 @@ at_member f g (y ∷ xs) same x there = elim (cons_cases y x xs there) [
 
 -- ---- each number once
 
-abbrev IsOnce : List ℕ → Type 0
-IsOnce [] = Unit {0}
-IsOnce (x ∷ xs) = (Contains xs x → ⊥) × IsOnce xs
-
 once_without : (x : ℕ) (xs : List ℕ) → IsOnce xs → IsOnce (without x xs)
 once_without x [] once = tt
 once_without x (y ∷ xs) once = from (not (y == x)) (once_without x xs once.1)
@@ -85,11 +81,11 @@ once_without x (y ∷ xs) once = from (not (y == x)) (once_without x xs once.1)
     from true rest = ((λ there. once.0 (without-there x xs y there)), rest)
     from false rest = rest
 
-firsts_once : (xs : List ℕ) → IsOnce (firsts xs)
+pub firsts_once : (xs : List ℕ) → IsOnce (firsts xs)
 firsts_once [] = tt
 firsts_once (x ∷ xs) = ((λ there. without-other x (firsts xs) x there refl), once_without x (firsts xs) (firsts_once xs))
 
-in_firsts : (xs : List ℕ) (x : ℕ) → Contains xs x → Contains (firsts xs) x
+pub in_firsts : (xs : List ℕ) (x : ℕ) → Contains xs x → Contains (firsts xs) x
 in_firsts [] x there = absurd (none_in_nil x there)
 in_firsts (y ∷ xs) x there = elim (cases_eq x y) [
   | inl same ↦ (0, omega arith, sym same)
@@ -99,7 +95,7 @@ in_firsts (y ∷ xs) x there = elim (cases_eq x y) [
   ]
 ]
 
-of_firsts : (xs : List ℕ) (x : ℕ) → Contains (firsts xs) x → Contains xs x
+pub of_firsts : (xs : List ℕ) (x : ℕ) → Contains (firsts xs) x → Contains xs x
 of_firsts [] x there = absurd (none_in_nil x there)
 of_firsts (y ∷ xs) x there = elim (cons_cases y x (without y (firsts xs)) there) [
   | inl same ↦ (0, omega arith, same)
@@ -108,7 +104,7 @@ of_firsts (y ∷ xs) x there = elim (cons_cases y x (without y (firsts xs)) ther
 
 -- ---- a renaming from one list to another
 
-renaming : (xs ys : List ℕ) → IsOnce xs → IsOnce ys → length xs ≡ length ys → (r : Renaming) × (map r.to xs ≡ ys)
+pub renaming : (xs ys : List ℕ) → IsOnce xs → IsOnce ys → length xs ≡ length ys → (r : Renaming) × (map r.to xs ≡ ys)
 renaming [] [] once_x once_y size = (no_change, refl)
 renaming [] (y ∷ ys) once_x once_y size = absurd (omega arith)
 renaming (x ∷ xs) [] once_x once_y size = absurd (omega arith)
@@ -124,7 +120,7 @@ renaming (x ∷ xs) (y ∷ ys) once_x once_y size =
 
 -- ---- places
 
-place : ℕ → List ℕ → ℕ
+pub place : ℕ → List ℕ → ℕ
 place h xs = prefix_len (λ k. not (nat_eq k h)) xs
 
 place_low : (h : ℕ) (xs : List ℕ) → Contains xs h → place h xs < length xs
@@ -140,21 +136,21 @@ place_low h (x ∷ xs) there = elim (cases_eq x h) [
   ]
 ]
 
-position_is : (h : ℕ) (xs : List ℕ) → Contains xs h → position (λ k. nat_eq k h) xs ≡ Some (place h xs)
+pub position_is : (h : ℕ) (xs : List ℕ) → Contains xs h → position (λ k. nat_eq k h) xs ≡ Some (place h xs)
 unfolding place
 position_is h xs there = λ k. cond (lt-ltb (prefix_len (λ n. not (nat_eq n h)) xs) (length xs) (place_low h xs there) k) (Some (prefix_len (λ n. not (nat_eq n h)) xs)) None
 
-place_here : (x : ℕ) (xs : List ℕ) (h : ℕ) → x ≡ h → place h (x ∷ xs) ≡ 0
+pub place_here : (x : ℕ) (xs : List ℕ) (h : ℕ) → x ≡ h → place h (x ∷ xs) ≡ 0
 unfolding place
 place_here x xs h same = λ k. cond (not (eq-eqb x h same k)) (1 + prefix_len (λ n. not (nat_eq n h)) xs) 0
 
-place_on : (x : ℕ) (xs : List ℕ) (h : ℕ) → (x ≡ h → ⊥) → place h (x ∷ xs) ≡ suc (place h xs)
+pub place_on : (x : ℕ) (xs : List ℕ) (h : ℕ) → (x ≡ h → ⊥) → place h (x ∷ xs) ≡ suc (place h xs)
 unfolding place
 place_on x xs h other =
     let next : 1 + prefix_len (λ n. not (nat_eq n h)) xs ≡ suc (prefix_len (λ n. not (nat_eq n h)) xs) = omega arith in
     (λ k. cond (not (ne_eqb x h other k)) (1 + prefix_len (λ n. not (nat_eq n h)) xs) 0) ∙ next
 
-one_place : (p q : ℕ) (xs : List ℕ) → Contains xs p → Contains xs q → place p xs ≡ place q xs → p ≡ q
+pub one_place : (p q : ℕ) (xs : List ℕ) → Contains xs p → Contains xs q → place p xs ≡ place q xs → p ≡ q
 one_place p q [] there_p there_q same = absurd (none_in_nil p there_p)
 one_place p q (x ∷ xs) there_p there_q same = elim (cases_eq x p) [
   | inl is_p ↦ elim (cases_eq x q) [
@@ -189,7 +185,7 @@ length_map f [] = refl
 length_map f (x ∷ xs) = ap suc (length_map f xs)
 
 -- a cell that a kept register holds is listed, and each that is listed is held by one
-held_in : (lasts : ℕ → Option Held) (vs : List ℕ) (v h : ℕ) → Contains vs v → lasts v ≡ Some (Cell h) → Contains (flat_map (λ u. cell_held (lasts u)) vs) h
+pub held_in : (lasts : ℕ → Option Held) (vs : List ℕ) (v h : ℕ) → Contains vs v → lasts v ≡ Some (Cell h) → Contains (flat_map (λ u. cell_held (lasts u)) vs) h
 held_in lasts [] v h there is = absurd (none_in_nil v there)
 held_in lasts (u ∷ vs) v h there is = elim (cons_cases u v vs there) [
   | inl same ↦ Contains-append_left (cell_held (lasts u)) (flat_map (λ w. cell_held (lasts w)) vs) h (subst (λ o. Contains (cell_held o) h) (sym (ap lasts same ∙ is)) (0, omega arith, refl))
@@ -204,7 +200,7 @@ holds (Some (Cell k)) h there = elim (cons_cases k h [] there) [
   | inr after ↦ absurd (none_in_nil h after)
 ]
 
-held_by_one : (lasts : ℕ → Option Held) (vs : List ℕ) (h : ℕ) → Contains (flat_map (λ u. cell_held (lasts u)) vs) h → (v : ℕ) × Contains vs v × (lasts v ≡ Some (Cell h))
+pub held_by_one : (lasts : ℕ → Option Held) (vs : List ℕ) (h : ℕ) → Contains (flat_map (λ u. cell_held (lasts u)) vs) h → (v : ℕ) × Contains vs v × (lasts v ≡ Some (Cell h))
 held_by_one lasts [] h there = absurd (none_in_nil h there)
 held_by_one lasts (u ∷ vs) h there = elim (Contains-append_cases (cell_held (lasts u)) (flat_map (λ w. cell_held (lasts w)) vs) h there) [
   | inl here ↦ (u, (0, omega arith, refl), holds (lasts u) h here)
@@ -228,7 +224,7 @@ module _ (s : System) (a : run.State) (tidy : IsTidy s a) where
   held_listed : (h : ℕ) → Contains (held_cells s a) h → (v : ℕ) × Contains (keeps_of s) v × (a.lasts v ≡ Some (Cell h))
   held_listed h there = held_by_one a.lasts (keeps_of s) h (of_firsts (flat_map (λ u. cell_held (a.lasts u)) (keeps_of s)) h there)
 
-  cell_listed : (h : ℕ) → Contains (held_cells s a) h → finite_map.get a.cells h ≡ Some (view_at a.cells h)
+  pub cell_listed : (h : ℕ) → Contains (held_cells s a) h → finite_map.get a.cells h ≡ Some (view_at a.cells h)
   cell_listed h there = let by = held_listed h there in view_there a.cells h (tidy.there by.0 h by.2)
 
   cell_unlisted : (h : ℕ) → (Contains (held_cells s a) h → ⊥) → finite_map.get a.cells h ≡ None

@@ -1,5 +1,5 @@
 -- What is saved of a monitor is the state after all events for which it stands.
-use Rattle.std.proofs.Common.{◌≡◌, ℕ, suc, ◌<◌, ◌≤◌, List, length, None, refl, sym, ap, subst, ◌∙◌, inl, inr, arith}
+use Rattle.std.proofs.Common.{◌≡◌, ℕ, ◌<◌, ◌≤◌, List, length, sym, ap, subst, ◌∙◌, inl, inr, arith}
 use Rattle.std.specs.Prelude.{IsFalse}
 use Rattle.std.proofs.lemmas.Bool.{cases_lt}
 use Rattle.flat_core.specs.Case.{Streams}
@@ -8,7 +8,6 @@ use Rattle.flat_core.specs.Instant.{instants}
 use Rattle.flat_core.specs.Line.{Line, inputs_of}
 use Rattle.flat_core.specs.Solution.{Solves}
 use Rattle.register_machine.specs.Run.{Runs, nothing_yet}
-use Rattle.register_machine.specs.Stands.{RunsTo}
 use Rattle.monitor_run.specs.declared.state.MonitorState.{MonitorState}
 use Rattle.monitor_run.specs.inner.Resumed.{IsSavedAs, IsShownAfter, IsStateAfter}
 use Rattle.monitor_run.specs.inner.Stands.{Stands}

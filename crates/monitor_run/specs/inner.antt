@@ -15,6 +15,7 @@ pub mod AnyMonitor
 pub mod Saved
 pub mod Fits
 pub mod Taking
+pub mod Resuming
 pub mod Resumed
 pub mod Written
 pub mod Laws

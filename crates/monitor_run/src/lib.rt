@@ -13,6 +13,7 @@ pub mod laws;
 mod machine;
 pub mod monitor;
 mod next;
+mod restored;
 mod run;
 mod saved;
 pub mod state;

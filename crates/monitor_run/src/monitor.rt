@@ -6,9 +6,10 @@ ghost use Rattle.std.specs.FinMap as map;
 ghost use Rattle.flat_core.specs.Line.{Line};
 ghost use Rattle.flat_core.specs.Updates.{is_running_update};
 ghost use Rattle.monitor_run.specs.inner.AnyMonitor.{HasSteppedAny};
+ghost use Rattle.monitor_run.specs.inner.Fits.{FitsMonitor};
 ghost use Rattle.monitor_run.specs.inner.Given.{line_of};
 ghost use Rattle.monitor_run.specs.inner.Next.{IsIdle};
-ghost use Rattle.monitor_run.specs.inner.Resumed.{IsStateAfter};
+ghost use Rattle.monitor_run.specs.inner.Resumed.{IsSavedAs, IsStateAfter};
 ghost use Rattle.monitor_run.specs.inner.Saved.{CanSave, HasState};
 ghost use Rattle.monitor_run.specs.inner.Stands.{Stands};
 ghost use Rattle.monitor_run.specs.inner.State.{IsReady, bound_of, plan_of};
@@ -18,8 +19,11 @@ ghost use Rattle.monitor_run.specs.inner.Steps.{AreAsSet, CanTake, HasStepped, I
 use crate::instant::run_instant;
 use crate::machine::Machine;
 use crate::next::next_below;
+use crate::restored::{given_at, restored};
 use crate::run::Root;
-use crate::saved::{contents, held_cells, ledger_of, open_events, pending_times, saved_registers};
+use crate::saved::{
+    assert_in_time, contents, held_cells, ledger_of, open_events, pending_times, saved_registers,
+};
 use crate::state::MonitorState;
 use crate::tables::Tables;
 use crate::visits::Visits;
@@ -184,10 +188,48 @@ impl<'c> Monitor<'c> {
         })
     }
 
-    /// What the monitor keeps, as a state. It is asked for where no step is left to run and the open events stand at the bound.
+    /// A monitor that goes on from a state, which has to fit the code and the limit. The state is gone after `NoMemory`.
+    ///
+    /// It has that state, so it stands for all events that the state comes after. It counts all times below the bound as run.
+    pub fn from_state(
+        alloc: Global,
+        code: &'c Code,
+        limit: u64,
+        state: MonitorState,
+    ) -> Result<Monitor<'c>, NoMemory>
+        requires limit { 1 ≤ limit }
+        requires fits { FitsMonitor code.now.system limit state }
+        ensures saved { IfOk result (λ m. IsSavedAs m state) }
+        ensures level { IfOk result (λ m. m.next ≡ m.bound) }
+        ensures stands { IfOk result (λ m. (lines : List Line)
+            → IsStateAfter m.system (plan_of m) lines state
+            → Stands m lines) }
+        ensures system { IfOk result (λ m. m.system ≡ code.now.system) }
+        ensures in_place { IfOk result (λ m. m.in_place ≡ code.now.in_place) }
+        ensures order { IfOk result (λ m. m.order ≡ code.now.order) }
+        ensures limit { IfOk result (λ m. m.limit ≡ limit) }
+    {
+        Ok(Monitor {
+            alloc,
+            code,
+            limit,
+            ran: state.instants,
+            next: state.bound,
+            bound: state.bound,
+            given: given_at(alloc, state.bound, state.open_events.as_slice())?,
+            tables: Tables::new(alloc, code)?,
+            visits: Visits::new(alloc, code.plan().order.len(), code.flat().outputs().len())?,
+            machine: restored(alloc, code, &state)?,
+            stop: None,
+        })
+    }
+
+    /// What the monitor keeps, as a state, which fits the code and the limit. It is asked for where no step is left to run and the open
+    /// events stand at the bound.
     pub fn state(&self, alloc: Global) -> Result<MonitorState, NoMemory>
         requires { CanSave self.now }
         ensures state { IfOk result (HasState self.now) }
+        ensures fits { IfOk result (FitsMonitor self.now.system self.now.limit) }
         ensures after { IfOk result (λ st. (lines : List Line)
             → Stands self.now lines
             → IsStateAfter self.now.system (plan_of self.now) lines st) }
@@ -195,9 +237,10 @@ impl<'c> Monitor<'c> {
         let flat = self.code.flat();
         let keeps = self.code.keeps();
         let cells = held_cells(alloc, keeps, &self.machine.last)?;
+        assert_in_time(&self.given);
         Ok(MonitorState {
             bound: self.bound,
-            instants: self.ran,
+            instants: self.instants(),
             open_events: open_events(alloc, flat.count(), &self.given)?,
             ledger: ledger_of(alloc, flat, &self.machine.store)?,
             registers: saved_registers(alloc, keeps, &self.machine.last, &cells)?,

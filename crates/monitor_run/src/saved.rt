@@ -1,19 +1,22 @@
 // What a monitor keeps, as a state apart from it.
 
-ghost use Rattle.std.specs.Prelude.{◌≡◌, ◌<◌, ◌++◌, All, IfOk, OnOk, length, map, nat_eq, position, slice_index, unwrap_or};
+ghost use Rattle.std.specs.Prelude.{◌≡◌, ◌<◌, ◌^◌, ◌++◌, ℕ, All, IfOk, OnOk, length, map, nat_eq};
+ghost use Rattle.std.specs.Prelude.{position, slice_index, unwrap_or};
 ghost use Rattle.std.specs.FinMap as finite_map;
-ghost use Rattle.std.specs.List.{flat_map};
+ghost use Rattle.std.specs.List.{AllByRecursion, flat_map};
 ghost use Rattle.std.specs.Option.{option_copied};
 ghost use Rattle.lift_func.specs.inner.Cells.{IsLive, view_at};
-ghost use Rattle.aggregate_store.specs.Content.{content_of};
+ghost use Rattle.aggregate_store.specs.Content.{AllIn, IsInRange, content_of, content_size};
 ghost use Rattle.flat_core.specs.Updates.{running_updates};
+ghost use Rattle.monitor_run.specs.inner.Given.{AreAt};
 ghost use Rattle.monitor_run.specs.inner.Saved.{cell_held, firsts, saved_of};
 ghost use Rattle.monitor_run.specs.inner.Shown.{held_at, held_by};
-ghost use Rattle.monitor_run.specs.inner.Taking.{event_for, firsts_with, found_for, opened, opened_below};
+ghost use Rattle.monitor_run.specs.inner.Taking.{InRegister, event_for, firsts_with, found_for, opened, opened_below};
 
 use crate::state::{
     Cells, Numbers, OpenEvent, OpenEvents, PendingTimes, SavedRegister, SavedRegisters,
 };
+use aggregate_store::range::assert_in_range;
 use aggregate_store::store::Store;
 use delay_timers::timers::Timers;
 use flat_core::flat::Flat;
@@ -71,11 +74,15 @@ fn number_of(cell: Handle, cells: &[Handle]) -> u64
 
 /// A register, with the number of its cell in place of the handle.
 fn saved_register(register: &Register, cells: &[Handle]) -> Result<SavedRegister, NoMemory>
-    ensures { IfOk result (λ r. r ≡ saved_of cells.now (held_by register.now)) }
+    ensures same { IfOk result (λ r. r ≡ saved_of cells.now (held_by register.now)) }
+    ensures range { IfOk result (InRegister IsInRange) }
 {
     match register {
         Register::Empty => Ok(SavedRegister::Empty),
-        Register::Scalar(value) => Ok(SavedRegister::Scalar(value.copy()?)),
+        Register::Scalar(value) => {
+            assert_in_range(value);
+            Ok(SavedRegister::Scalar(value.copy()?))
+        }
         Register::Aggregate(cell) => Ok(SavedRegister::Cell(number_of(*cell, cells))),
     }
 }
@@ -88,7 +95,8 @@ pub(crate) fn saved_registers(
     cells: &[Handle],
 ) -> Result<SavedRegisters, NoMemory>
     requires { All (λ i. i < length last.now) keeps.now }
-    ensures { IfOk result (λ r. r ≡ map (λ v. saved_of cells.now (held_at last.now v)) keeps.now) }
+    ensures same { IfOk result (λ r. r ≡ map (λ v. saved_of cells.now (held_at last.now v)) keeps.now) }
+    ensures range { IfOk result (AllByRecursion (InRegister IsInRange)) }
 {
     let mut registers = SavedRegisters::new(alloc);
     for id in keeps {
@@ -100,7 +108,9 @@ pub(crate) fn saved_registers(
 /// What the listed cells have, in their order.
 pub(crate) fn contents(alloc: Global, cells: &[Handle], store: &Store) -> Result<Cells, NoMemory>
     requires { All (λ h. IsLive store.now.cells h) cells.now }
-    ensures { IfOk result (λ list. list ≡ map (λ h. content_of (view_at store.now.cells h)) cells.now) }
+    ensures same { IfOk result (λ list. list ≡ map (λ h. content_of (view_at store.now.cells h)) cells.now) }
+    ensures range { IfOk result (AllByRecursion (AllIn IsInRange)) }
+    ensures sized { IfOk result (AllByRecursion (λ c. content_size c < 2 ^ 64)) }
 {
     let mut list = Cells::new(alloc);
     for cell in cells {
@@ -133,14 +143,28 @@ fn value_among(id: EqId, given: &[TraceLine]) -> Option<&Scalar>
 
 /// Appends the event of an equation, if there is one.
 fn push_open(id: EqId, given: &[TraceLine], events: &mut OpenEvents) -> Result<(), NoMemory>
-    ensures { OnOk result (events.new ≡ events.old ++ opened id (found_for given.now id)) }
+    ensures events { OnOk result (events.new ≡ events.old ++ opened id (found_for given.now id)) }
+    ensures range { OnOk result (AllByRecursion (λ e. IsInRange e.value) events.old
+        → AllByRecursion (λ e. IsInRange e.value) events.new) }
 {
     match value_among(id, given) {
-        Some(value) => events.push(OpenEvent {
-            equation: id,
-            value: value.copy()?,
-        }),
+        Some(value) => {
+            assert_in_range(value);
+            events.push(OpenEvent {
+                equation: id,
+                value: value.copy()?,
+            })
+        }
         None => Ok(()),
+    }
+}
+
+/// Asserts that lines at one time are at a time, if there are any, as they are. Nothing is done.
+pub(crate) fn assert_in_time(given: &[TraceLine])
+    ensures { (at : ℕ) → AreAt at given.now → 0 < length given.now → at < 2 ^ 63 }
+{
+    if let Some(line) = given.first() {
+        let _time = line.time.get();
     }
 }
 
@@ -150,7 +174,8 @@ pub(crate) fn open_events(
     count: u32,
     given: &[TraceLine],
 ) -> Result<OpenEvents, NoMemory>
-    ensures { IfOk result (λ events. events ≡ opened_below given.now count) }
+    ensures events { IfOk result (λ events. events ≡ opened_below given.now count) }
+    ensures range { IfOk result (AllByRecursion (λ e. IsInRange e.value)) }
 {
     let mut events = OpenEvents::new(alloc);
     for number in 0..count {
@@ -162,7 +187,8 @@ pub(crate) fn open_events(
 /// How many elements each running update has copied, by equation.
 pub(crate) fn ledger_of(alloc: Global, flat: &Flat, store: &Store) -> Result<Numbers, NoMemory>
     requires { length store.now.ledger ≡ length flat.now.equations }
-    ensures { IfOk result (λ counts. counts ≡ map (slice_index store.now.ledger) (running_updates flat.now)) }
+    ensures same { IfOk result (λ counts. counts ≡ map (slice_index store.now.ledger) (running_updates flat.now)) }
+    ensures range { IfOk result (AllByRecursion (λ n. n < 2 ^ 64)) }
 {
     let mut counts = Numbers::new(alloc);
     for number in 0..flat.count() {

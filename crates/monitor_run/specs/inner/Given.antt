@@ -5,6 +5,7 @@ use Rattle.tsl_value.specs.declared.scalar.Scalar.{Scalar}
 use Rattle.tsl_value.specs.View.{Plain, is_of}
 use Rattle.flat_core.specs.declared.equation.Equation.{Equation}
 use Rattle.flat_core.specs.declared.equation.Op.TheVariants as op
+use Rattle.flat_core.specs.Complete.{IsShort}
 use Rattle.flat_core.specs.Line.{Line, IsSorted, inputs_of}
 use Rattle.flat_core.specs.System.{System, equation}
 
@@ -27,6 +28,10 @@ pub record IsEventLine (s : System) (l : Line) : Type 0 where
 
 abbrev pub AreEventLines : System → List Line → Type 0
 AreEventLines s lines = AllByRecursion (IsEventLine s) lines
+
+-- a text of the event has at most 65,536 bytes
+abbrev pub IsShortLine : Line → Type 0
+IsShortLine l = (i : ℕ) (value : Scalar) → l.event ≡ Some (i, value) → IsShort value
 
 -- no line has an event that a later line has another one of, for the same input at the same time
 abbrev pub AreOnce : List Line → Type 0

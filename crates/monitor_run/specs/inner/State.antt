@@ -1,5 +1,6 @@
 -- What a caller sees of a monitor.
-use Rattle.std.specs.Prelude.{ℕ, ◌+◌, ◌<◌, ◌≤◌, ◌^◌, List, Option}
+use Rattle.std.specs.Prelude.{◌≡◌, ℕ, ◌+◌, ◌<◌, ◌≤◌, ◌^◌, List, Option}
+use Rattle.std.specs.List.{AllByRecursion}
 use Rattle.std.specs.FinMap as map
 use Rattle.tsl_value.specs.declared.scalar.ValueType.{ValueType}
 use Rattle.delay_timers.specs.inner.Pending.{Times}
@@ -10,11 +11,12 @@ use Rattle.flat_core.specs.Line.{Line}
 use Rattle.flat_core.specs.System.{System}
 use Rattle.alias_rules.specs.Fine.{IsFinePlan}
 use Rattle.register_machine.specs.Run as run
+use Rattle.register_machine.specs.Short.{IsShortState}
 use Rattle.register_machine.specs.Tidy.{IsTidy}
 use Rattle.monitor_run.specs.declared.monitor.Closed.{Closed}
 use Rattle.monitor_run.specs.declared.monitor.Closed.TheVariants as closed
 use Rattle.monitor_run.specs.declared.monitor.Stop.{Stop}
-use Rattle.monitor_run.specs.inner.Given.{AreAt, AreEventLines, AreOnce}
+use Rattle.monitor_run.specs.inner.Given.{AreAt, AreEventLines, AreOnce, IsShortLine}
 use Rattle.monitor_run.specs.inner.Instant.{AreTimers, AreUnkept}
 use Rattle.monitor_run.specs.inner.Registers.{AreHeld}
 use Rattle.monitor_run.specs.inner.Shown.{state_of}
@@ -50,7 +52,13 @@ plan_of m = record { in_place = m.in_place; order = m.order }
 abbrev pub kept_state : State → run.State
 kept_state m = state_of m.cells m.ledger m.last m.timers
 
+-- texts have at most 65,536 bytes: those of the given events, and those that are kept
+pub record AreShort (m : State) : Type 0 where
+  pub given : AllByRecursion IsShortLine m.given
+  pub kept : IsShortState (kept_state m)
+
 -- What a monitor has where no stop is kept. The given events are all of one time, from `next` on. It keeps nothing but what is kept.
+-- An instant has run exactly where `next` is above 0, since time 0 is one.
 pub record IsReady (m : State) : Type 0 where
   pub whole : IsFlat m.system
   pub fine : IsFinePlan m.system m.in_place m.order
@@ -69,6 +77,9 @@ pub record IsReady (m : State) : Type 0 where
   pub timers : AreTimers m.system m.next m.timers
   pub few_cells : map.len m.cells ≤ stored_count m.system
   pub tidy : IsTidy m.system (kept_state m)
+  pub unbegun : m.next ≡ 0 → m.ran ≡ 0
+  pub begun : 0 < m.next → 0 < m.ran
+  pub short : AreShort m
 
 -- the times that are closed are those below this
 abbrev pub bound_of : Closed → ℕ

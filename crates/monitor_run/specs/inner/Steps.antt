@@ -3,6 +3,7 @@ use Rattle.std.specs.Prelude.{◌≡◌, ℕ, ◌+◌, ◌<◌, ◌≤◌, suc, 
 use Rattle.lift_func.specs.declared.fault.FaultKind.{FaultKind}
 use Rattle.tsl_value.specs.declared.scalar.Scalar.{Scalar}
 use Rattle.flat_core.specs.Case.{Streams}
+use Rattle.flat_core.specs.Complete.{IsShort}
 use Rattle.flat_core.specs.Fault.{IsNamed}
 use Rattle.flat_core.specs.Line.{Line, inputs_of}
 use Rattle.flat_core.specs.Solution.{Solves}
@@ -22,12 +23,14 @@ use Rattle.monitor_run.specs.inner.Next.{IsFirstInstant, NoInstant}
 use Rattle.monitor_run.specs.inner.Stands.{Stands}
 use Rattle.monitor_run.specs.inner.State.{State, kept_state, plan_of}
 
--- An event may be given: its time is not closed, no event of another time is open, and this input has none yet.
+-- An event may be given: its time is not closed, no event of another time is open, this input has none yet, and a text has at most 65,536
+-- bytes.
 pub record CanTake (m : State) (time i : ℕ) (value : Scalar) : Type 0 where
   pub unclosed : m.bound ≤ time
   pub alone : AreAt time m.given
   pub fresh : inputs_of m.given i time ≡ None
   pub fits : IsInputOf m.system i value
+  pub short : IsShort value
 
 -- the stop that was kept, again, and all is as it was
 abbrev pub IsStoppedAgain : {A : Type 0} → State → State → Result A Stop → Type 0

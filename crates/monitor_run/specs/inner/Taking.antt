@@ -6,6 +6,13 @@ use Rattle.tsl_value.specs.declared.scalar.Scalar.{Scalar}
 use Rattle.flat_core.specs.Line.{Line}
 use Rattle.flat_core.specs.Members.{is_in}
 use Rattle.monitor_run.specs.declared.state.OpenEvent.{OpenEvent}
+use Rattle.monitor_run.specs.declared.state.SavedRegister.{SavedRegister}
+use Rattle.monitor_run.specs.declared.state.SavedRegister.TheVariants as saved
+
+-- the scalar of a saved register, if it has one, has a property
+abbrev pub InRegister : (Scalar → Type 0) → SavedRegister → Type 0
+InRegister P (saved.Scalar s) = P s
+InRegister P _ = Unit {0}
 
 -- the value of an event, if it is one of an input
 abbrev pub event_for : ℕ → Option (ℕ × Scalar) → Option Scalar
