@@ -1,2 +1,14 @@
 pub mod Joined
 pub mod Alone
+pub mod Formats
+pub mod Scalars
+pub mod Contents
+pub mod Loop
+pub mod Numbered
+pub mod RegisterTypes
+pub mod Named
+pub mod RunFields
+pub mod Fitting
+pub mod Answered
+pub mod Seen
+pub mod Counted

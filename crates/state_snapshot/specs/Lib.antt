@@ -1,2 +1,4 @@
 pub mod Spelling
+pub mod Fits
 pub mod Laws
+pub mod inner

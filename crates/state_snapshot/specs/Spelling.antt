@@ -1,5 +1,5 @@
 -- The one spelling of a state, field by field.
-use Rattle.std.specs.Prelude.{ℕ, Bool, true, false, List, [], ◌∷◌, ◌++◌, length, codes, Option, Some, None}
+use Rattle.std.specs.Prelude.{◌≡◌, ◌≢◌, ◌<◌, ◌^◌, ℕ, Bool, true, false, List, [], ◌∷◌, ◌++◌, length, codes, Option, Some, None}
 use Rattle.std.specs.Int.{w64, cast_unsigned, to_be_bytes}
 use Rattle.std.specs.List.{flat_map}
 use Rattle.aggregate_store.specs.declared.content.Content.{Content}
@@ -81,3 +81,11 @@ kept_bytes st =
 abbrev pub spelling : Code → RunState → List ℕ
 spelling c st =
     mark ++ (text (code_text c) ++ (options_bytes st ++ (reader_bytes st.reader ++ (events_bytes st.monitor ++ kept_bytes st.monitor))))
+
+-- the bytes begin with the mark, a length, and that many bytes which are not this code's text
+pub record IsOfOther (c : Code) (bytes : List ℕ) : Type 0 where
+  pub program : List ℕ
+  pub rest : List ℕ
+  pub is : bytes ≡ mark ++ (text program ++ rest)
+  pub short : length program < 2 ^ 64
+  pub other : program ≢ code_text c

@@ -1,6 +1,5 @@
 -- A monitor of a trace takes a piece.
-use Rattle.std.proofs.Common.{◌≡◌, ◌≢◌, ℕ, suc, ◌<◌, ◌≤◌, Bool, false, List, [], ◌++◌, length, Option, None, Some, Result, Ok, Err, IfOk, IfErr, refl, sym, ap, subst, ◌∙◌, arith, append-nil}
-use Rattle.lift_func.specs.declared.fault.FaultKind.{FaultKind}
+use Rattle.std.proofs.Common.{◌≡◌, ◌≢◌, ℕ, suc, ◌≤◌, Bool, false, List, [], ◌++◌, Option, None, Some, Result, Ok, Err, IfOk, IfErr, refl, sym, ap, subst, ◌∙◌, arith, append-nil}
 use Rattle.flat_core.specs.Case.{Streams}
 use Rattle.flat_core.specs.Complete.{IsFlat}
 use Rattle.flat_core.specs.Ending.{EndsAtBound}
@@ -14,7 +13,7 @@ use Rattle.monitor_run.specs.declared.monitor.Stop.TheVariants as stop
 use Rattle.monitor_run.specs.inner.State as engine
 use Rattle.monitor_run.specs.inner.Written.{HasWritten}
 use Rattle.register_code.specs.inner.Plan.{IsPlanOrder}
-use Rattle.trace_reader.specs.inner.Reader.{Reader, AwaitsMore}
+use Rattle.trace_reader.specs.inner.Reader.{Reader}
 use Rattle.trace_reader.specs.Reading.{Reading, reading}
 use Rattle.trace_reader.specs.inner.Reads.{Reads}
 use Rattle.trace_monitor.specs.declared.ending.RunEnding.{RunEnding}
@@ -29,10 +28,11 @@ use Rattle.trace_monitor.specs.Next.{EndsBy, EndsSo, IsNext, is_nothing}
 use Rattle.trace_monitor.specs.inner.Reading.{Fed, HasRead, HasRunAll, HasStoppedIn, Halts, bound_at}
 use Rattle.trace_monitor.specs.inner.Run.{HasCopiedTo, HasCountedTo, HasRanTo, StopsSo}
 use Rattle.trace_monitor.specs.inner.State.{State}
+use Rattle.trace_monitor.specs.inner.Waits.{Waits}
 use Rattle.trace_monitor.proofs.Readiness.{one_due}
 use Rattle.trace_monitor.proofs.Counts.{copies_stay, ran_stays}
 use Rattle.trace_monitor.proofs.RunOut.{halted_bound, halted_lines}
-use Rattle.trace_monitor.proofs.Concluding.{due_at_halt, quiet_at_halt, due_at_fault, faulted, fault_within, due_at_limit, limited}
+use Rattle.trace_monitor.proofs.Concluding.{due_at_halt, quiet_at_halt, due_at_fault, faulted, due_at_limit, limited}
 
 -- these bytes of a trace, as a monitor reads them
 abbrev pub fed_to : State → List ℕ → Bool → Fed
@@ -48,12 +48,12 @@ pub has_begun : (m at : State) (fed bytes : List ℕ) (ended : Bool) (kept : Kep
     → Reads at.reader m.system m.options.strict m.options.bytes bytes kept.lines ended → HasBegun at bytes ended kept.lines kept.text
 has_begun m at fed bytes ended kept same reads = subst (λ (a : State). HasBegun a bytes ended kept.lines kept.text) (sym same) (record {
   read = record {
-    reads = subst (λ (s : System). Reads at.reader s m.options.strict m.options.bytes bytes kept.lines ended) (sym kept.system_is) reads;
+    reads = subst (λ (s : System). Reads at.reader s m.options.strict m.options.bytes bytes kept.lines ended) (sym (kept.waits.in_step.system_is ∙ kept.waits.system_is)) reads;
     last_is = kept.last_is;
-    has = record { bound_is = kept.bound_is; written = kept.written };
+    has = record { bound_is = kept.waits.in_step.bound_is ∙ kept.last_is; written = kept.written };
   };
-  system_is = kept.system_is;
-  limit_is = kept.limit_is;
+  system_is = kept.waits.in_step.system_is ∙ kept.waits.system_is;
+  limit_is = kept.waits.instants_limit;
 })
 
 -- the same, where the reader was fed and the monitor is looked into
@@ -159,12 +159,6 @@ module _ (m : State) (bytes : List ℕ) (ended : Bool) (lines : List Line) (text
   due_after (Err (stop.Limit count t)) answer ran stopped ends = due_stopped (stop.Limit count t) (λ is. cc) (stopped (λ is. cc))
   due_after (Err stop.Memory) answer ran stopped (by, is, none) = absurd none
 
-  -- the equation of a fault is there
-  pub there : (halted : Result Halt Stop) → IfErr halted (λ why. why ≢ stop.Memory → Stopped why) → (t i : ℕ) (kind : FaultKind) → halted ≡ Err (stop.Fault t i kind) → i < length m.system.equations
-  there halted stopped t i kind is =
-      let h : Stopped (stop.Fault t i kind) = subst (λ (r : Result Halt Stop). IfErr r (λ why. why ≢ stop.Memory → Stopped why)) is stopped (λ is. cc) in
-      fault_within m.system m.options m.engine.order flat plan bytes ended h.taken h.more (lines_are _ h) h.time h.later (closed _ h) (text ++ after) t i kind (stops _ h)
-
   -- how the run stands
   pub next_after : (halted : Result Halt Stop) (answer : Option RunEnding) → IfOk halted Ran → IfErr halted (λ why. why ≢ stop.Memory → Stopped why) → EndsSo m.system halted answer → IsNext m.system m.options bytes ended answer
   next_after (Ok halt.More) answer ran stopped is =
@@ -193,26 +187,23 @@ module _ (m : State) (bytes : List ℕ) (ended : Bool) (lines : List Line) (text
   next_after (Err stop.Memory) answer ran stopped (by, is, none) = absurd none
 
   -- what goes on stands for all that was fed
-  pub kept_after : (halted : Result Halt Stop) → IfOk halted Ran → (halted ≡ Ok halt.More → AwaitsMore r) → EndsSo m.system halted None → Kept (record m { reader = r; last = last; engine = e }) bytes
-  kept_after (Ok halt.More) ran awaits is =
+  pub kept_after : (halted : Result Halt Stop) → IfOk halted Ran → Waits (record m { reader = r; last = last; engine = e }) → EndsSo m.system halted None → Kept (record m { reader = r; last = last; engine = e }) bytes
+  kept_after (Ok halt.More) ran waits is =
       let h = halts halt.More ran in
       record {
         lines = taken halt.More ran;
         text = text ++ after;
         reads = subst (λ (b : Bool). Reads r m.system m.options.strict m.options.bytes bytes (taken halt.More ran) b) h.1
             (subst (λ (s : System). Reads r s m.options.strict m.options.bytes bytes (taken halt.More ran) ended) begun.system_is ran.reads);
-        awaits = awaits refl;
+        waits = waits;
         all = subst (λ (b : Bool). reading m.system m.options.strict m.options.bytes bytes b ≡ record { lines = taken halt.More ran; refused = None }) h.1 h.0;
-        system_is = ran.system_is ∙ begun.system_is;
-        limit_is = ran.limit_is ∙ begun.limit_is;
         last_is = ran.last_is;
-        bound_is = ran.bound_is;
         written = subst (λ (t : List ℕ). HasWritten e (events_of (taken halt.More ran)) (text ++ t)) (sym ran.after_is) ran.written;
         due = subst (λ (b : Bool). IsDue m.system m.options bytes b (text ++ after)) h.1 (due_ran halt.More ran);
       }
-  kept_after (Ok halt.End) ran awaits is = absurd (cc)
-  kept_after (Ok (halt.Refused f)) ran awaits is = absurd (cc)
-  kept_after (Err why) ran awaits (by, is, so) = absurd (cc)
+  kept_after (Ok halt.End) ran waits is = absurd (cc)
+  kept_after (Ok (halt.Refused f)) ran waits is = absurd (cc)
+  kept_after (Err why) ran waits (by, is, so) = absurd (cc)
 
   -- what the engine has counted
   module _ (by : Halt) (h : Ran by) where

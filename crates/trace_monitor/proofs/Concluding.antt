@@ -1,6 +1,5 @@
 -- What is due after a piece of the trace, and how the run stands there.
-use Rattle.std.proofs.Common.{◌≡◌, ℕ, ◌<◌, ◌≤◌, Bool, List, ◌++◌, length, sym, subst}
-use Rattle.std.proofs.lemmas.Option.{slice_get_within}
+use Rattle.std.proofs.Common.{◌≡◌, ℕ, ◌≤◌, Bool, List, ◌++◌, sym, subst}
 use Rattle.lift_func.specs.declared.fault.FaultKind.{FaultKind}
 use Rattle.flat_core.specs.inner.BoundLaws.{AreFrom}
 use Rattle.flat_core.specs.Case.{Streams}
@@ -78,12 +77,6 @@ module _ (s : System) (o : Options) (order : List ℕ) (flat : IsFlat s) (plan :
 
       pub faulted : IsFaulted s o bytes ended t i kind
       faulted = ends_in text AtFault at_fault
-
-      pub fault_within : i < length s.equations
-      fault_within =
-          let (z, zs) = solved in
-          let named = (at_fault z zs).1.named in
-          let (e, is, args) = flat.proper.runs_all i named.running in slice_get_within s.equations i e is
 
     module _ (count t : ℕ) (stops : StopsSo s (events_of taken) time o.instants text (stop.Limit count t)) where
       abbrev AtLimit : List Line → ℕ → Streams → Type 0

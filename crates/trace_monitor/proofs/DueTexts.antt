@@ -42,6 +42,17 @@ due_alike s bound limit ls ms z w alike agree =
     (λ t lt. ap not (alike.over_same t lt)) (λ t lt. lines_same t bound z w s.outputs lt agree) (all_take (λ t. t < bound) limit (instants s ls z bound) (instants_below s ls z bound))
     ∙ ap (λ l. flat_map (text_at s w) (filter (λ t. not (is_over s (inputs_of ms) w t)) (take limit l))) same
 
+texts_at : (f g : ℕ → List ℕ) (bound : ℕ) (ts : List ℕ) → ((t : ℕ) → t < bound → f t ≡ g t) → AllByRecursion (λ t. t < bound) ts → flat_map f ts ≡ flat_map g ts
+texts_at f g bound [] texts all = refl
+texts_at f g bound (t ∷ ts) texts all = let rest = texts_at f g bound ts texts all.1 in λ k. texts t all.0 k ++ rest k
+
+-- and the same text of all instants below it
+pub written_alike : (s : System) (bound : ℕ) (ls : List Line) (z w : Streams) → HappensAlike s bound ls z ls w → OutputsAgree s bound z w
+    → flat_map (text_at s z) (instants s ls z bound) ≡ flat_map (text_at s w) (instants s ls w bound)
+written_alike s bound ls z w alike agree =
+    texts_at (text_at s z) (text_at s w) bound (instants s ls z bound) (λ t lt. lines_same t bound z w s.outputs lt agree) (instants_below s ls z bound)
+    ∙ ap (flat_map (text_at s w)) (alike.instants_same bound (omega arith))
+
 -- what is due instants_below a bound begins what is due instants_below a higher one
 pub due_grows : (s : System) (lines : List Line) (z : Streams) (low high limit : ℕ) → low ≤ high → (more : List ℕ) × (due_text s lines z high limit ≡ due_text s lines z low limit ++ more)
 due_grows s lines z low high limit le =

@@ -1,7 +1,10 @@
 -- What a monitor of a trace starts from, and what steps of the engine make together.
-use Rattle.std.proofs.Common.{◌≡◌, ℕ, suc, ◌-◌, ◌<◌, true, false, nat_eq, List, [], ◌∷◌, ◌++◌, length, refl, sym, ap, subst, ◌∙◌, append_assoc, append-nil, arith, Err}
+use Rattle.std.proofs.Common.{◌≡◌, ℕ, suc, ◌≤◌, true, false, nat_eq, List, [], ◌∷◌, ◌++◌, length, refl, sym, ap, subst, ◌∙◌, append_assoc, append-nil, arith, Err}
 use Rattle.std.proofs.lemmas.Bool.Decides.{nat_tests}
-use Rattle.std.specs.List.{flat_map}
+use Rattle.flat_core.proofs.Members.{contains_head}
+use Rattle.std.specs.Prelude.{is_some}
+use Rattle.std.specs.List.{AllByRecursion, Contains, flat_map}
+use Rattle.tsl_value.proofs.Lists.{none_in_nil}
 use Rattle.flat_core.specs.Case.{Streams}
 use Rattle.flat_core.specs.Complete.{IsFlat}
 use Rattle.flat_core.specs.Ending.{EndsAtBound}
@@ -12,6 +15,7 @@ use Rattle.flat_core.specs.System.{System}
 use Rattle.flat_core.specs.Text.{due_text, text_at}
 use Rattle.monitor_run.specs.declared.monitor.Stop.{Stop}
 use Rattle.monitor_run.specs.declared.monitor.Stop.TheVariants as stop
+use Rattle.monitor_run.specs.inner.Given.{AreAt}
 use Rattle.monitor_run.specs.inner.Next.{IsIdle}
 use Rattle.monitor_run.specs.inner.Stands.{Stands}
 use Rattle.monitor_run.specs.inner.State as engine
@@ -20,6 +24,7 @@ use Rattle.monitor_run.specs.inner.Steps.{AreAsSet, HasRun, HasStepped, NoneIsLe
 use Rattle.monitor_run.specs.inner.Written.{HasWritten}
 use Rattle.monitor_run.proofs.LawLemmas.{goes_on_written, idle_ends, limit_below, named_below}
 use Rattle.register_code.specs.inner.Plan.{IsPlanOrder}
+use Rattle.trace_reader.specs.inner.LastTime.{or_zero}
 use Rattle.trace_reader.specs.inner.Reader.{AwaitsMore}
 use Rattle.trace_reader.specs.inner.Reads.{Reads}
 use Rattle.trace_monitor.specs.inner.Kept.{Kept}
@@ -29,12 +34,16 @@ use Rattle.trace_monitor.specs.inner.State.{State}
 use Rattle.trace_monitor.proofs.Counts.{counts_idle, counts_limit, copies_fault}
 use Rattle.trace_monitor.proofs.Readiness.{due_at_start, none_read, plan_solution}
 
-not_zero : (n : ℕ) → false ≡ nat_eq (suc n) 0
+pub not_zero : (n : ℕ) → false ≡ nat_eq (suc n) 0
 not_zero n = grind (arith, nat_tests)
 
 pub nothing_is : (piece : List ℕ) → is_nothing piece ≡ true → piece ≡ []
 nothing_is [] is = refl
 nothing_is (b ∷ piece) is = absurd (let e : false ≡ true = not_zero (length piece) ∙ is in cc)
+
+none_given : (given : List Line) → ((l : Line) → Contains given l → Contains [] l) → given ≡ []
+none_given [] kept = refl
+none_given (g ∷ given) kept = absurd (none_in_nil g (kept g (contains_head g given)))
 
 -- nothing was taken
 pub kept_new : (m : State) → engine.IsReady m.engine → m.engine.system ≡ m.system → m.engine.limit ≡ m.options.instants → m.last ≡ 0 → m.engine.bound ≡ 0 → Stands m.engine []
@@ -42,16 +51,38 @@ pub kept_new : (m : State) → engine.IsReady m.engine → m.engine.system ≡ m
 kept_new m ready system limit last bound stands reads awaits =
     let within = ready.within in
     let zero : m.engine.next ≡ 0 = omega arith in
+    let none = none_given m.engine.given stands.kept in
+    let nothing : m.reader.taken ≡ 0 = reads.taken_is in
     record {
       lines = [];
       text = [];
       reads = reads;
-      awaits = awaits;
+      waits = record {
+        system_is = reads.system;
+        strict_is = reads.strict_is;
+        bytes_limit = reads.limit_is;
+        instants_limit = limit;
+        awaits = awaits;
+        within = omega arith;
+        in_step = record {
+          system_is = system ∙ sym reads.system;
+          last_is = last ∙ sym (ap or_zero reads.last);
+          bound_is = bound ∙ sym last;
+          can_save = record {
+            going = stands.going;
+            idle = record {
+              start = λ at. omega arith;
+              events = subst (λ (ls : List Line). AllByRecursion (λ l. m.engine.bound ≤ l.time) ls) (sym none) tt;
+              delays = λ i u is. omega arith;
+            };
+            at_bound = subst (AreAt m.engine.bound) (sym none) tt;
+          };
+          open_later = λ some. absurd (let size : length m.engine.given ≡ 0 = ap length none in omega arith);
+          seen = λ i. reads.seen i ∙ sym (ap (λ (ls : List Line). is_some (inputs_of ls i m.last)) none);
+        };
+      };
       all = none_read m.system m.options.strict m.options.bytes;
-      system_is = system;
-      limit_is = limit;
       last_is = last;
-      bound_is = bound;
       written = record { stands = stands; text_is = λ z zs. sym (ap (λ (n : ℕ). flat_map (text_at m.engine.system z) (instants m.engine.system [] z n)) zero) };
       due = due_at_start m.system m.options m.engine.order (subst IsFlat system ready.whole) (subst (λ (s : System). IsPlanOrder s m.engine.order) system (ready_order m.engine ready));
     }
@@ -90,15 +121,6 @@ module _ (first old new : engine.State) (lines : List Line) (text before mid aft
         written = subst (λ (l : List ℕ). HasWritten new lines l) (append_assoc text on.added here)
             (goes_on_written old new lines (text ++ on.added) mid here on.written (subst (λ (l : List ℕ). HasRun old new lines mid l) step.1 run));
       }
-
-  pub less_left : HasRun old new lines mid after → new.bound - new.next < old.bound - old.next
-  less_left run =
-      let (z, zs) = plan_solution old.system old.order ready.whole (ready_order old ready) (inputs_of lines) (suc run.time) in
-      let late = (run.each z zs).0.late in
-      let early = run.early in
-      let next_is = run.next_is in
-      let bound_is = run.as_set.bound in
-      omega arith
 
   pub ran_out : (new ≡ old) × (after ≡ mid) × NoneIsLeft old lines → IsIdle new → HasRunOut first new lines text before after
   ran_out (same, rest, none) idle = record {

@@ -10,4 +10,6 @@ pub mod ReadOn
 pub mod RunOut
 pub mod Concluding
 pub mod Advancing
+pub mod Waiting
+pub mod Resuming
 pub mod Within

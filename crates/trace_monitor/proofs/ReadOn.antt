@@ -15,8 +15,8 @@ use Rattle.trace_monitor.specs.declared.halt.Halt.{Halt}
 use Rattle.trace_monitor.specs.declared.halt.Halt.TheVariants as halt
 use Rattle.trace_monitor.specs.inner.Reading.{Fed, HasRead, HasReadOn, HasReadAll, HasStoppedIn, Halts, reading_of}
 use Rattle.trace_monitor.specs.inner.Kept.{events_of}
-use Rattle.trace_monitor.specs.inner.Run.{HasTaken, HasStoppedAt, MayFollow, StopsSo}
-use Rattle.trace_monitor.proofs.Following.{may_follow, from_line, line_closed}
+use Rattle.trace_monitor.specs.inner.Run.{HasTaken, HasStoppedAt, StopsSo}
+use Rattle.trace_monitor.proofs.Following.{from_line, line_closed}
 
 -- nothing was taken yet
 pub none_taken : (r : Reader) (e : engine.State) (last : ℕ) (x : Fed) (lines : List Line) (text before : List ℕ) → HasRead r e last x lines text → HasReadOn r e e last x lines text before before
@@ -35,9 +35,6 @@ module _ (r : Reader) (old mid : engine.State) (last : ℕ) (x : Fed) (lines : L
 
   -- the line that stands next
   module _ (l : Line) (rest : List Line) (is : (reading_of mid.system x).lines ≡ taken ++ l ∷ rest) where
-    pub next_may : MayFollow mid.system taken l
-    next_may = may_follow mid.system x.strict x.limit x.bytes x.ended taken l rest is
-
     pub on_line : (r' : Reader) (new : engine.State) (after : List ℕ) → Reads r' mid.system x.strict x.limit x.bytes (taken ++ l ∷ []) x.ended
         → HasTaken mid new taken l (text ++ on.added) at after → HasReadOn r' old new l.time x lines text before after
     on_line r' new after reads has = record {

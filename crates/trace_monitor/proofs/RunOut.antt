@@ -42,13 +42,6 @@ module _ (r : Reader) (old mid new : engine.State) (last until : ℕ) (x : Fed) 
   abbrev written_text : List ℕ
   written_text = text ++ h.on.added
 
-  -- the engine stands for these events
-  pub run_begins : (ls : List Line) × (t : List ℕ) × HasWritten mid ls t
-  run_begins = (events_of taken, written_text, h.on.read.has.written)
-
-  pub bound_is_last : mid.bound ≡ last
-  bound_is_last = h.on.read.has.bound_is ∙ sym h.on.read.last_is
-
   bound_same : bound_at by last until ≡ bound_at by (last_time taken) until
   bound_same = ap (λ (n : ℕ). bound_at by n until) h.on.read.last_is
 

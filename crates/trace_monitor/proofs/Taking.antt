@@ -1,28 +1,22 @@
 -- Closing times, running their instants, and giving events.
-use Rattle.std.proofs.Common.{◌≡◌, ◌≢◌, ℕ, ◌+◌, ◌≤◌, max, List, [], ◌∷◌, ◌++◌, Option, Some, None, is_some, is_ok, if◌then◌else◌, Result, Ok, Err, OnOk, IfErr, IfOk, refl, sym, subst, ap, arith, ◌∙◌}
+use Rattle.std.proofs.Common.{◌≡◌, ◌≢◌, ℕ, ◌+◌, ◌≤◌, max, List, [], ◌∷◌, ◌++◌, Some, None, is_some, is_ok, if◌then◌else◌, Result, Ok, Err, OnOk, IfErr, IfOk, refl, sym, subst, ap, arith, ◌∙◌, append-nil}
 use Rattle.std.proofs.Math.Nat.{max-eq_right}
 use Rattle.std.proofs.lemmas.List.Elements.{filter-append}
-use Rattle.std.specs.List.{AllByRecursion, Contains, flat_map}
-use Rattle.std.specs.Option.{option_or}
-use Rattle.tsl_value.specs.View.{View}
+use Rattle.std.specs.List.{flat_map}
 use Rattle.tsl_value.specs.declared.scalar.Scalar.{Scalar}
-use Rattle.flat_core.specs.Line.{Line, event_in, inputs_of}
-use Rattle.flat_core.specs.System.{System}
-use Rattle.flat_core.proofs.Members.{all_at, all_from}
+use Rattle.flat_core.specs.Line.{Line}
 use Rattle.flat_core.specs.Text.{text_at}
 use Rattle.monitor_run.specs.declared.monitor.Stop.{Stop}
-use Rattle.monitor_run.specs.inner.Given.{AreAt, IsInputOf, line_of}
-use Rattle.monitor_run.specs.inner.Next.{IsIdle}
+use Rattle.monitor_run.specs.inner.Given.{line_of}
 use Rattle.monitor_run.specs.inner.State as engine
 use Rattle.monitor_run.specs.inner.Steps.{AreAsSet, CanTake}
 use Rattle.monitor_run.specs.inner.Written.{HasWritten}
-use Rattle.monitor_run.proofs.OpenLemmas.{input_in, input_there}
 use Rattle.monitor_run.proofs.MonitorLemmas.{stands_closed, stands_given, given_leaves}
 use Rattle.trace_monitor.specs.inner.Kept.{events_of}
 use Rattle.trace_monitor.specs.declared.halt.Halt.{Halt}
 use Rattle.trace_monitor.specs.declared.halt.Halt.TheVariants as halt
 use Rattle.trace_monitor.specs.inner.Reading.{bound_at}
-use Rattle.trace_monitor.specs.inner.Run.{HasRunOut, HasStopped, HasRunBelow, HasStoppedAt, HasTaken, CountsSo, MayFollow, StopsSo, closed_to}
+use Rattle.trace_monitor.specs.inner.Run.{HasRunOut, HasStopped, HasRunBelow, HasStoppedAt, HasTaken, CountsSo, StopsSo, closed_to}
 use Rattle.trace_reader.proofs.LineLemmas.{last_time-push}
 
 pub written_closed : (m : engine.State) (bound : ℕ) (lines : List Line) (text : List ℕ) → HasWritten m lines text → HasWritten (record m { bound = bound }) lines text
@@ -59,7 +53,7 @@ module _ (m new : engine.State) (time : ℕ) (later : m.bound ≤ time) (lines :
     counts = subst (λ (b : ℕ). CountsSo new m.system lines b why) (max-eq_right later) h.counts;
   }
 
-one_event : (l : Line) (i : ℕ) (value : Scalar) → l.event ≡ Some (i, value) → events_of (l ∷ []) ≡ line_of l.time i value ∷ []
+pub one_event : (l : Line) (i : ℕ) (value : Scalar) → l.event ≡ Some (i, value) → events_of (l ∷ []) ≡ line_of l.time i value ∷ []
 one_event l i value is = λ k. if is_some (is k) then record { time = l.time; event = is k } ∷ [] else []
 
 pub given_on : (m new : engine.State) (l : Line) (i : ℕ) (value : Scalar) → l.event ≡ Some (i, value) → (m.stop ≡ None → engine.IsReady m) → CanTake m l.time i value → new ≡ record m { given = m.given ++ line_of l.time i value ∷ [] }
@@ -68,6 +62,13 @@ given_on m new l i value is ready can same lines text w =
     subst (λ (e : engine.State). HasWritten e (lines ++ events_of (l ∷ [])) text) (sym same)
     (subst (λ (ls : List Line). HasWritten (record m { given = m.given ++ line_of l.time i value ∷ [] }) (lines ++ ls) text) (sym (one_event l i value is))
     (written_given m (ready w.stands.going) l.time i value can lines text w))
+
+no_event : (l : Line) → l.event ≡ None → events_of (l ∷ []) ≡ []
+no_event l is = λ k. if is_some (is k) then l ∷ [] else []
+
+-- a line without an event gives none
+pub none_given_on : (m : engine.State) (l : Line) → l.event ≡ None → m ≡ record m { given = m.given ++ events_of (l ∷ []) }
+none_given_on m l is = sym (ap (λ (ls : List Line). record m { given = m.given ++ ls }) (no_event l is) ∙ ap (λ (g : List Line). record m { given = g }) (append-nil m.given))
 
 -- what holds at an answer, and another thing with it
 pub on_ok : {A E : Type 0} (r : Result A E) (P Q : Type 0) → (P → Q) → OnOk r P → OnOk r Q
@@ -96,30 +97,6 @@ module _ (m mid new : engine.State) (time : ℕ) (later : m.bound ≤ time) (sam
       (stops lines text (subst (λ (e : engine.State). HasWritten e lines text) (sym same) (written_closed m (max m.bound time) lines text w))))
 
 -- ---- a line
-at_time : (t : ℕ) (lines : List Line) → AllByRecursion (λ e. e.time ≤ t) lines → AllByRecursion (λ e. t ≤ e.time) lines → AreAt t lines
-at_time t [] most least = tt
-at_time t (l ∷ lines) most least = ((let le = most.0 in let ge = least.0 in omega arith), at_time t lines most.1 least.1)
-
--- what all lines have not is not among those that are kept
-fresh_kept : (lines given : List Line) (i t : ℕ) → ((l : Line) → Contains given l → Contains lines l) → inputs_of lines i t ≡ None → inputs_of given i t ≡ None
-fresh_kept lines given i t kept none = from (inputs_of given i t) refl
-  where
-    from : (a : Option View) → inputs_of given i t ≡ a → inputs_of given i t ≡ None
-    from None is = is
-    from (Some v) is = let found = input_in i t given v is in absurd (input_there i t found.0 lines (kept (line_of t i found.0) found.1) none)
-
-pub can_take : (e : engine.State) (s : System) (lines : List Line) (text : List ℕ) (l : Line) → e.system ≡ s → HasWritten e (events_of lines) text → IsIdle e → e.bound ≡ l.time → MayFollow s lines l
-    → (i : ℕ) (value : Scalar) → l.event ≡ Some (i, value) → CanTake e l.time i value
-can_take e s lines text l same w idle closed may i value is =
-    record {
-      unclosed = omega arith;
-      alone = at_time l.time e.given
-          (all_from (λ (x : Line). x.time ≤ l.time) e.given (λ x there. all_at (λ (y : Line). y.time ≤ l.time) (events_of lines) may.all_before x (w.stands.kept x there)))
-          (subst (λ (b : ℕ). AllByRecursion (λ x. b ≤ x.time) e.given) closed idle.events);
-      fresh = fresh_kept (events_of lines) e.given i l.time w.stands.kept (may.fresh i value is);
-      fits = subst (λ (t : System). IsInputOf t i value) (sym same) (may.fits i value is);
-    }
-
 pub taken_line : (m mid new : engine.State) (lines : List Line) (l : Line) (text before after : List ℕ) → HasRunBelow m mid (events_of lines) l.time text before after
     → ((ls : List Line) (written : List ℕ) → HasWritten mid ls written → HasWritten new (ls ++ events_of (l ∷ [])) written) → AreAsSet mid new → HasTaken m new lines l text before after
 taken_line m mid new lines l text before after h given set = record {

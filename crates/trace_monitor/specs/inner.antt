@@ -1,4 +1,6 @@
 pub mod State
+pub mod Waits
 pub mod Kept
+pub mod Snapshot
 pub mod Run
 pub mod Reading

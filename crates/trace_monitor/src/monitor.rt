@@ -1,20 +1,29 @@
 // The monitor of a trace.
 
-ghost use Rattle.std.specs.Prelude.{◌≡◌, ◌≢◌, ◌≤◌, ◌<◌, ◌^◌, ◌++◌, ◌∷◌, ℕ, List, [], false, length, IfErr, IfOk, IsTrue, None, Err, Ok};
+ghost use Rattle.std.specs.Prelude.{◌≡◌, ◌≢◌, ◌≤◌, ◌<◌, ◌^◌, ◌++◌, ◌∷◌, ℕ, List, [], false, true, length, IfErr, IfOk, IsTrue, None, Err, Ok};
 ghost use Rattle.std.specs.Prelude.{OnErr, OnOk, Some, if◌then◌else◌, is_ok, slice_index};
 ghost use Rattle.lift_func.specs.declared.fault.FaultKind.{FaultKind};
+ghost use Rattle.trace_reader.specs.inner.LastTime.{or_zero};
 ghost use Rattle.trace_reader.specs.inner.Reader.{AwaitsMore};
 ghost use Rattle.tsl_value.specs.declared.scalar.Scalar.{Scalar};
 ghost use Rattle.tsl_value.specs.declared.limits.TheConstants.{MOST_TRACE_BYTES};
+ghost use Rattle.command_words.specs.declared.limits.TheConstants.{MOST_INSTANTS};
+ghost use Rattle.state_snapshot.specs.Fits.{FitsRun};
+ghost use Rattle.monitor_run.specs.inner.AnyMonitor.{NamesRunning};
+ghost use Rattle.monitor_run.specs.inner.Saved.{CanSave};
 ghost use Rattle.monitor_run.specs.inner.Steps.{AreAsSet, CanTake};
 ghost use Rattle.flat_core.specs.Updates.{is_running_update};
 ghost use Rattle.trace_monitor.specs.Counted.{HasCounted};
 ghost use Rattle.trace_monitor.specs.Due.{IsDue};
+ghost use Rattle.trace_monitor.specs.Saved.{IsRunAfter};
 ghost use Rattle.trace_monitor.specs.inner.Kept.{Kept, events_of};
+ghost use Rattle.trace_monitor.specs.inner.Snapshot.{HasRunState, code_of};
+ghost use Rattle.trace_monitor.specs.inner.Waits.{AreInStep, HaltsAny, WaitsAgain, HasRunOutAny, HasTakenIn, MayCome, Waits, open_from};
 ghost use Rattle.trace_monitor.specs.Next.{EndsFor, EndsSo, IsNext, is_nothing};
-ghost use Rattle.trace_monitor.specs.inner.Run.{HasLines, HasRunBelow, HasRunOut, HasStopped, HasStoppedAt, HasTaken, MayFollow, closed_to};
+ghost use Rattle.trace_monitor.specs.inner.Run.{HasLines, HasRunBelow, HasRunOut, HasStopped, HasStoppedAt, HasTaken, closed_to};
 ghost use Rattle.trace_monitor.specs.inner.Reading.{Fed, HasRead, HasReadAll, HasRunAll, HasStoppedIn, bound_at};
 ghost use Rattle.flat_core.specs.Line.{Line};
+ghost use Rattle.trace_reader.specs.inner.AnyReader as any_reader;
 ghost use Rattle.trace_reader.specs.inner.Reads.{Reads};
 ghost use Rattle.trace_reader.specs.declared.limits.TheConstants.{MOST_PIECE_BYTES};
 ghost use Rattle.monitor_run.specs.inner.Written.{HasWritten};
@@ -25,11 +34,13 @@ use crate::options::Options;
 use flat_core::line::TraceLine;
 use monitor_run::monitor::{Closed, Monitor, Step, Stop};
 use register_code::code::Code;
+use state_snapshot::run_state::RunState;
 use std::alloc::Global;
 use std::marker::Model;
 use trace_reader::fault::TraceFault;
 use trace_reader::next::Next;
 use trace_reader::reader::TraceReader;
+use trace_reader::state::ReaderState;
 use tsl_value::bytes::Bytes;
 use tsl_value::ids::EqId;
 use tsl_value::memory::NoMemory;
@@ -54,6 +65,7 @@ impl<'c> Model for TraceMonitor<'c> {
     ghost use Rattle.lift_func.specs.contracts.body.Body as body;
     ghost use Rattle.monitor_run.specs.inner.Code.{cells_code, times_code};
     ghost use Rattle.trace_monitor.specs.inner.State.{State};
+    ghost use Rattle.tsl_value.specs.declared.limits.TheConstants.{MOST_TRACE_BYTES};
 
     ghost Value = { State };
 
@@ -61,12 +73,17 @@ impl<'c> Model for TraceMonitor<'c> {
 
     ghost view = { λ m. record { system = m.code.now.system; options = m.options; reader = m.reader; last = m.last; engine = m.engine } };
 
-    ghost invariant = { λ m. (1 ≤ m.options.instants) × (m.options.until < 2 ^ 63) };
+    ghost invariant = { λ m. (1 ≤ m.options.instants)
+        × (m.options.until < 2 ^ 63)
+        × (1 ≤ m.options.bytes)
+        × (m.options.bytes ≤ MOST_TRACE_BYTES) };
 }
 
 /// Runs all instants at closed times and appends their text. The answer is the stop, where one comes.
 fn run(engine: &mut Monitor, out: &mut Bytes) -> Result<(), Stop>
-    requires { (lines : List Line) × (text : List ℕ) × HasWritten engine.old lines text }
+    requires { engine.old.stop ≡ None }
+    ensures any { OnOk result (HasRunOutAny engine.old engine.new) }
+    ensures named { IfErr result (NamesRunning engine.old.system) }
     ensures system { engine.new.system ≡ engine.old.system }
     ensures set { engine.new.in_place ≡ engine.old.in_place }
     ensures order { engine.new.order ≡ engine.old.order }
@@ -90,8 +107,10 @@ fn run(engine: &mut Monitor, out: &mut Bytes) -> Result<(), Stop>
 
 /// Closes the times below one and runs all their instants. The answer is the stop, where one comes.
 fn run_below(engine: &mut Monitor, time: Time, out: &mut Bytes) -> Result<(), Stop>
-    requires written { (lines : List Line) × (text : List ℕ) × HasWritten engine.old lines text }
+    requires going { engine.old.stop ≡ None }
     requires later { engine.old.bound ≤ time }
+    ensures any { OnOk result (HasRunOutAny (closed_to engine.old time) engine.new) }
+    ensures named { IfErr result (NamesRunning engine.old.system) }
     ensures system { engine.new.system ≡ engine.old.system }
     ensures set { engine.new.in_place ≡ engine.old.in_place }
     ensures order { engine.new.order ≡ engine.old.order }
@@ -108,8 +127,9 @@ fn run_below(engine: &mut Monitor, time: Time, out: &mut Bytes) -> Result<(), St
 
 /// Gives the event of a line, where it has one. It stops only where memory runs out.
 fn give(engine: &mut Monitor, line: TraceLine) -> Result<(), Stop>
-    requires written { (lines : List Line) × (text : List ℕ) × HasWritten engine.old lines text }
+    requires going { engine.old.stop ≡ None }
     requires takes { (i : ℕ) (value : Scalar) → line.event ≡ Some (i, value) → CanTake engine.old line.time i value }
+    ensures any { OnOk result (engine.new ≡ record engine.old { given = engine.old.given ++ events_of (line ∷ []) }) }
     ensures system { engine.new.system ≡ engine.old.system }
     ensures set { engine.new.in_place ≡ engine.old.in_place }
     ensures order { engine.new.order ≡ engine.old.order }
@@ -130,17 +150,21 @@ fn give(engine: &mut Monitor, line: TraceLine) -> Result<(), Stop>
 
 /// Closes the times below a line, runs all their instants, and gives the line's event. The answer is the stop, where one comes.
 fn take_line(engine: &mut Monitor, line: TraceLine, out: &mut Bytes) -> Result<(), Stop>
-    requires { (lines : List Line) × (text : List ℕ) × HasLines engine.old lines text × MayFollow engine.old.system lines line }
+    requires can_save { CanSave engine.old }
+    requires may { MayCome engine.old line }
+    ensures can_save { OnOk result (CanSave engine.new) }
+    ensures bound { OnOk result (engine.new.bound ≡ line.time) }
+    ensures limit { OnOk result (engine.new.limit ≡ engine.old.limit) }
+    ensures still_open { OnOk result (engine.new.given ≡ open_from line.time engine.old.given ++ events_of (line ∷ [])) }
+    ensures named { IfErr result (NamesRunning engine.old.system) }
     ensures system { engine.new.system ≡ engine.old.system }
     ensures set { engine.new.in_place ≡ engine.old.in_place }
     ensures order { engine.new.order ≡ engine.old.order }
     ensures taken { OnOk result ((lines : List Line) (text : List ℕ)
         → HasLines engine.old lines text
-        → MayFollow engine.old.system lines line
         → HasTaken engine.old engine.new lines line text out.old out.new) }
     ensures stops { IfErr result (λ stop. (lines : List Line) (text : List ℕ)
         → HasLines engine.old lines text
-        → MayFollow engine.old.system lines line
         → HasStoppedAt engine.old engine.new (events_of lines) line.time text out.old out.new stop) }
 {
     if let Err(stop) = run_below(engine, line.time, out) {
@@ -168,14 +192,18 @@ fn take_lines(
     last: &mut Time,
     out: &mut Bytes,
 ) -> Result<Halt, Stop>
-    requires { (x : Fed) × (lines : List Line) × (text : List ℕ) × HasRead reader.old engine.old last.old x lines text }
+    requires { AreInStep reader.old engine.old last.old }
+    ensures in_step { OnOk result (AreInStep reader.new engine.new last.new) }
+    ensures limit { OnOk result (engine.new.limit ≡ engine.old.limit) }
+    ensures as_set { any_reader.AreAsSet reader.old reader.new }
+    ensures halts { IfOk result (HaltsAny reader.old reader.new) }
+    ensures named { IfErr result (NamesRunning engine.old.system) }
     ensures system { engine.new.system ≡ engine.old.system }
     ensures set { engine.new.in_place ≡ engine.old.in_place }
     ensures order { engine.new.order ≡ engine.old.order }
     ensures read { IfOk result (λ by. (x : Fed) (lines : List Line) (text : List ℕ)
         → HasRead reader.old engine.old last.old x lines text
         → HasReadAll reader.new engine.old engine.new last.new x lines text out.old out.new by) }
-    ensures awaits { result ≡ Ok Halt.More → AwaitsMore reader.new }
     ensures stops { IfErr result (λ stop. stop ≢ Stop.Memory → (x : Fed) (lines : List Line) (text : List ℕ) (until : ℕ)
         → HasRead reader.old engine.old last.old x lines text → HasStoppedIn engine.old engine.new x until text out.old out.new stop) }
 {
@@ -200,8 +228,10 @@ fn run_to_halt(
     until: Time,
     out: &mut Bytes,
 ) -> Result<(), Stop>
-    requires written { (lines : List Line) × (text : List ℕ) × HasWritten engine.old lines text }
+    requires going { engine.old.stop ≡ None }
     requires last { engine.old.bound ≡ last }
+    ensures any { OnOk result (HasRunOutAny (closed_to engine.old (bound_at by.now last until)) engine.new) }
+    ensures named { IfErr result (NamesRunning engine.old.system) }
     ensures system { engine.new.system ≡ engine.old.system }
     ensures set { engine.new.in_place ≡ engine.old.in_place }
     ensures order { engine.new.order ≡ engine.old.order }
@@ -225,14 +255,18 @@ fn run_all(
     until: Time,
     out: &mut Bytes,
 ) -> Result<Halt, Stop>
-    requires { (x : Fed) × (lines : List Line) × (text : List ℕ) × HasRead reader.old engine.old last.old x lines text }
+    requires { AreInStep reader.old engine.old last.old }
+    ensures in_step { result ≡ Ok Halt.More → AreInStep reader.new engine.new last.new }
+    ensures limit { OnOk result (engine.new.limit ≡ engine.old.limit) }
+    ensures as_set { any_reader.AreAsSet reader.old reader.new }
+    ensures halts { IfOk result (HaltsAny reader.old reader.new) }
+    ensures named { IfErr result (NamesRunning engine.old.system) }
     ensures system { engine.new.system ≡ engine.old.system }
     ensures set { engine.new.in_place ≡ engine.old.in_place }
     ensures order { engine.new.order ≡ engine.old.order }
     ensures run { IfOk result (λ by. (x : Fed) (lines : List Line) (text : List ℕ)
         → HasRead reader.old engine.old last.old x lines text
         → HasRunAll reader.new engine.old engine.new last.new until x lines text out.old out.new by) }
-    ensures awaits { result ≡ Ok Halt.More → AwaitsMore reader.new }
     ensures stops { IfErr result (λ stop. stop ≢ Stop.Memory → (x : Fed) (lines : List Line) (text : List ℕ)
         → HasRead reader.old engine.old last.old x lines text → HasStoppedIn engine.old engine.new x until text out.old out.new stop) }
 {
@@ -284,6 +318,16 @@ fn clear_if_err(ending: &Result<Option<RunEnding>, NoMemory>, text: &mut Bytes)
     }
 }
 
+/// The time of the last line of a state, or 0 where there is none.
+fn last_or_zero(state: &ReaderState) -> Time
+    ensures { result ≡ or_zero state.now.last }
+{
+    match state.last {
+        Some(time) => time,
+        None => Time::new(0).unwrap(),
+    }
+}
+
 impl<'c> TraceMonitor<'c> {
     /// A monitor of a trace of which nothing was taken.
     pub fn new(
@@ -313,10 +357,76 @@ impl<'c> TraceMonitor<'c> {
         })
     }
 
+    /// A monitor that goes on from a state, within the limits that the state has, and closes the times up to `until` at the end of the
+    /// trace. It stands for all bytes that the state comes after. The state is gone where memory ran out.
+    pub fn from_state(
+        alloc: Global,
+        code: &'c Code,
+        until: u64,
+        state: RunState,
+    ) -> Result<TraceMonitor<'c>, NoMemory>
+        requires fits { FitsRun code.now.system state }
+        requires until { until < 2 ^ 63 }
+        ensures state { IfOk result (λ m. HasRunState m state) }
+        ensures waits { IfOk result Waits }
+        ensures kept { IfOk result (λ m. (fed : List ℕ) → IsRunAfter code.now m.options fed state → Kept m fed) }
+        ensures system { IfOk result (λ m. m.system ≡ code.now.system) }
+        ensures in_place { IfOk result (λ m. m.engine.in_place ≡ code.now.in_place) }
+        ensures order { IfOk result (λ m. m.engine.order ≡ code.now.order) }
+        ensures until { IfOk result (λ m. m.options.until ≡ until) }
+    {
+        let options = Options {
+            until,
+            instants: state.instants_limit,
+            bytes: state.bytes_limit,
+            strict: state.strict,
+        };
+        let last = last_or_zero(&state.reader);
+        let reader = TraceReader::from_state(
+            alloc,
+            code.flat(),
+            options.strict,
+            options.bytes,
+            state.reader,
+        )?;
+        let engine = Monitor::from_state(alloc, code, options.instants, state.monitor)?;
+        Ok(TraceMonitor {
+            code,
+            options,
+            reader,
+            last,
+            engine,
+        })
+    }
+
+    /// What the monitor keeps, as a state. It is asked for where the run goes on after the last piece, or none was taken.
+    pub fn state(&self, alloc: Global) -> Result<RunState, NoMemory>
+        requires { Waits self.now }
+        ensures state { IfOk result (HasRunState self.now) }
+        ensures fits { self.now.options.instants ≤ MOST_INSTANTS → IfOk result (FitsRun self.now.system) }
+        ensures after { IfOk result (λ st. (fed : List ℕ)
+            → Kept self.now fed
+            → IsRunAfter (code_of self.now) self.now.options fed st) }
+    {
+        // What these answer is not needed: their contracts say what every engine and every set has.
+        self.engine.instants();
+        let reader = self.reader.state(alloc)?;
+        reader.seen.assert_ascending();
+        let monitor = self.engine.state(alloc)?;
+        Ok(RunState {
+            strict: self.options.strict,
+            instants_limit: self.options.instants,
+            bytes_limit: self.options.bytes,
+            reader,
+            monitor,
+        })
+    }
+
     /// Feeds a piece of the trace to the reader, or its end, which is an empty piece.
     fn feed(&mut self, piece: &[u8]) -> Result<(), NoMemory>
-        requires kept { (fed : List ℕ) × Kept self.old fed }
+        requires awaits { AwaitsMore self.old.reader }
         requires short { length piece.now ≤ MOST_PIECE_BYTES }
+        ensures any { OnOk result (HasTakenIn self.old.reader self.new.reader piece.now) }
         ensures fed { OnOk result ((fed : List ℕ) (lines : List Line)
             → Reads self.old.reader self.old.system self.old.options.strict self.old.options.bytes fed lines false
             → Reads self.new.reader self.old.system self.old.options.strict self.old.options.bytes
@@ -334,8 +444,10 @@ impl<'c> TraceMonitor<'c> {
     /// Takes a piece of the trace, or its end, which is an empty piece. `out` then has the text that it adds to what is due, in place of
     /// what it had. The answer is how the run ends, if it does. Out of memory, `out` has nothing, and no further piece may come.
     pub fn advance(&mut self, piece: &[u8], out: &mut Bytes) -> Result<Option<RunEnding>, NoMemory>
-        requires kept { (fed : List ℕ) × Kept self.old fed }
+        requires waits { Waits self.old }
         requires short { length piece.now ≤ MOST_PIECE_BYTES }
+        ensures goes_on { result ≡ Ok None → WaitsAgain self.old self.new piece.now }
+        ensures done { result ≡ Ok (Some RunEnding.Done) → is_nothing piece.now ≡ true }
         ensures system { self.new.system ≡ self.old.system }
         ensures options { self.new.options ≡ self.old.options }
         ensures engine { self.new.engine.system ≡ self.old.engine.system }
@@ -376,8 +488,13 @@ impl<'c> TraceMonitor<'c> {
     }
 
     /// The number of instants that have run.
+    ///
+    /// Its second clause gives callers what the engine has counted of the bytes so far.
     pub fn instants(&self) -> u64
-        ensures { result ≡ self.now.engine.ran }
+        ensures ran { result ≡ self.now.engine.ran }
+        ensures counted { (fed : List ℕ)
+            → Kept self.now fed
+            → HasCounted self.now.system self.now.options fed false self.now.engine RunEnding.Done }
     {
         self.engine.instants()
     }

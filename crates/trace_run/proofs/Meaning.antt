@@ -25,6 +25,7 @@ use Rattle.trace_reader.specs.Reading.{Reading, reading}
 use Rattle.trace_reader.proofs.InputLemmas.{others_leave_reading}
 use Rattle.tsl_value.specs.declared.place.Place.{Place}
 use Rattle.tsl_world.specs.Journal.{given, taken, ended}
+use Rattle.tsl_world.specs.Seen.{seen}
 use Rattle.tsl_world.specs.declared.outside.Channel.TheVariants.{Out}
 use Rattle.tsl_world.specs.declared.outside.Did.{Did}
 use Rattle.tsl_world.specs.declared.outside.Slot.TheVariants.{Trace}
@@ -89,10 +90,10 @@ module _ (source : List ℕ) (items : List tree.Item) (s : System) (o : Options)
   pub goes_on_meant : (bytes : List ℕ) → GoesOn s o bytes → GoesOnAsMeant items o bytes
   goes_on_meant bytes goes_on = record { accepted = sym (refused_alike bytes false) ∙ goes_on.accepted; quiet = quiet_meant bytes false goes_on.quiet }
 
-  pub begins_meant : (part : List Did) → BeginsDue s o part → BeginsAsMeant items o part
+  pub begins_meant : (part : List Did) → BeginsDue s o part → BeginsAsMeant items o (seen part)
   begins_meant part b = record { text = b.text; due = due_meant (taken Trace part) (ended Trace part) b.text b.due; begins = b.begins }
 
-  pub watch_ends_meant : (e : engine.State) (how : RunEnding) (part : List Did) → WatchEnds s o e how part → WatchEndsAsMeant items s o how part
+  pub watch_ends_meant : (e : engine.State) (how : RunEnding) (part : List Did) → WatchEnds s o e how part → WatchEndsAsMeant items s o how (seen part)
   watch_ends_meant e how part w = record {
     due = due_meant (taken Trace part) (ended Trace part) (given Out part) w.due;
     ends = ends_meant (taken Trace part) (ended Trace part) how w.cause;

@@ -3,11 +3,11 @@ use Rattle.std.specs.Prelude.{◌≡◌, ℕ, false, List, is_some, None}
 use Rattle.std.specs.List.{filter}
 use Rattle.flat_core.specs.Line.{Line, last_time}
 use Rattle.monitor_run.specs.inner.Written.{HasWritten}
-use Rattle.trace_reader.specs.inner.Reader.{AwaitsMore}
 use Rattle.trace_reader.specs.Reading.{reading}
 use Rattle.trace_reader.specs.inner.Reads.{Reads}
 use Rattle.trace_monitor.specs.Due.{IsDue}
 use Rattle.trace_monitor.specs.inner.State.{State}
+use Rattle.trace_monitor.specs.inner.Waits.{Waits}
 
 -- the lines that have an event
 abbrev pub events_of : List Line → List Line
@@ -19,11 +19,8 @@ pub record Kept (m : State) (fed : List ℕ) : Type 0 where
   pub lines : List Line
   pub text : List ℕ
   pub reads : Reads m.reader m.system m.options.strict m.options.bytes fed lines false
-  pub awaits : AwaitsMore m.reader
+  pub waits : Waits m
   pub all : reading m.system m.options.strict m.options.bytes fed false ≡ record { lines = lines; refused = None }
-  pub system_is : m.engine.system ≡ m.system
-  pub limit_is : m.engine.limit ≡ m.options.instants
   pub last_is : m.last ≡ last_time lines
-  pub bound_is : m.engine.bound ≡ last_time lines
   pub written : HasWritten m.engine (events_of lines) text
   pub due : IsDue m.system m.options fed false text

@@ -1,7 +1,5 @@
 -- What the engine makes of lines.
-use Rattle.std.specs.Prelude.{◌≡◌, ℕ, suc, ◌≤◌, ◌≢◌, List, ◌∷◌, [], ◌++◌, Some, None, IsTrue, length, slice_index}
-use Rattle.std.specs.List.{AllByRecursion}
-use Rattle.tsl_value.specs.declared.scalar.Scalar.{Scalar}
+use Rattle.std.specs.Prelude.{◌≡◌, ℕ, suc, ◌≤◌, ◌≢◌, List, ◌∷◌, [], ◌++◌, IsTrue, length, slice_index}
 use Rattle.flat_core.specs.Case.{Streams}
 use Rattle.flat_core.specs.Ending.{EndsInFault, EndsAtLimit, EndsAtBound}
 use Rattle.flat_core.specs.Instant.{instants}
@@ -13,7 +11,6 @@ use Rattle.monitor_run.specs.declared.monitor.Stop.{Stop}
 use Rattle.monitor_run.specs.declared.monitor.Stop.TheVariants as stop
 use Rattle.register_machine.specs.Copied.{copied}
 use Rattle.flat_core.specs.Updates.{is_running_update}
-use Rattle.monitor_run.specs.inner.Given.{IsInputOf}
 use Rattle.monitor_run.specs.inner.Next.{IsIdle}
 use Rattle.monitor_run.specs.inner.State as engine
 use Rattle.monitor_run.specs.inner.Steps.{AreAsSet}
@@ -82,13 +79,6 @@ pub record HasStopped (old new : engine.State) (lines : List Line) (text before 
 pub record HasLines (e : engine.State) (lines : List Line) (text : List ℕ) : Type 0 where
   pub bound_is : e.bound ≡ last_time lines
   pub written : HasWritten e (events_of lines) text
-
--- a line may follow these: it is no earlier, and its event is the first of its input at its time
-pub record MayFollow (s : System) (lines : List Line) (l : Line) : Type 0 where
-  pub last_before : last_time lines ≤ l.time
-  pub all_before : AllByRecursion (λ e. e.time ≤ l.time) (events_of lines)
-  pub fits : (i : ℕ) (value : Scalar) → l.event ≡ Some (i, value) → IsInputOf s i value
-  pub fresh : (i : ℕ) (value : Scalar) → l.event ≡ Some (i, value) → inputs_of (events_of lines) i l.time ≡ None
 
 -- a line was taken, and what it closes has run
 pub record HasTaken (old new : engine.State) (lines : List Line) (l : Line) (text before after : List ℕ) : Type 0 where

@@ -15,7 +15,7 @@ returns-in-Done c =
     let e = c.run_over.new.monitor.engine in
     let ran = ran_as m.system s m.options options c.in_ok-monitor.ensures.system c.in_ok-monitor.ensures.options e c.args.lines c.in_ok-ending.ending c.in_ok-ending.bytes c.in_ok-ending.ensures.ran in
     let whole = subst (λ (how : RunEnding). HasRanOver s options e c.args.lines how c.in_ok-ending.bytes) c.in-Done.is ran in
-    tallied s c.args.code.now.in_place c.args.lines e (c.in_ok-ending.ensures.set ∙ c.in_ok-monitor.ensures.in_place) c.in_ok-ending.bytes whole c.instants.result c.copied_together.result c.instants.ensures (c.copied_together.ensures ∙ ap (λ (t : System). up_to_most (updates_sum t (λ u. slice_index e.ledger u))) c.flat.ensures.flat)
+    tallied s c.args.code.now.in_place c.args.lines e (c.in_ok-ending.ensures.set ∙ c.in_ok-monitor.ensures.in_place) c.in_ok-ending.bytes whole c.instants.result c.copied_together.result c.instants.ensures.ran (c.copied_together.ensures ∙ ap (λ (t : System). up_to_most (updates_sum t (λ u. slice_index e.ledger u))) c.flat.ensures.flat)
 
 pub returns : goal.returns
 returns c =

@@ -20,6 +20,9 @@ loop-text-init c = record {
   bytes = refl;
 }
 
+pub advance-requires-clause-waits : goal.advance-requires-clause-waits
+advance-requires-clause-waits c = c.loop-text.invariant.kept.waits
+
 pub returns-in-Some-clause-set : goal.returns-in-Some-clause-set
 returns-in-Some-clause-set c = c.advance.ensures.set ∙ c.loop-text.invariant.set
 
@@ -42,7 +45,7 @@ returns-in-Some-clause-ran c =
       text = before.text ++ c.advance.new.out;
       due = c.in_ok-next.ensures.text fed before.text before.kept before.due;
       bytes_are = bytes_more before.text c.advance.new.out c.loop-text.bytes c.saturating_add-bytes.result before.bytes (search rules);
-      system_is = c.advance.ensures.engine ∙ before.kept.system_is;
+      system_is = c.advance.ensures.engine ∙ before.kept.waits.in_step.system_is ∙ before.kept.waits.system_is;
       counted = c.advance.ensures.counted fed c.in-Some.ending before.kept (c.branch-next.ensures ∙ ap result_from_control_flow c.in_ok-next.is ∙ ap (λ (e : Option RunEnding). Ok e) c.in-Some.is);
     }
 

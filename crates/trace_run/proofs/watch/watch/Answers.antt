@@ -35,8 +35,8 @@ loop-init g c =
       ),
     )
 
-pub advance-requires-clause-kept : goal.advance-requires-clause-kept
-advance-requires-clause-kept g c = let (fed, written, kept, taken, due, goes_on, calls) = c.loop.invariant.7 in (fed, kept)
+pub advance-requires-clause-waits : goal.advance-requires-clause-waits
+advance-requires-clause-waits g c = let (fed, written, kept, taken, due, goes_on, calls) = c.loop.invariant.7 in kept.waits
 
 pub returns-in_err-count-clause-calls : goal.returns-in_err-count-clause-calls
 returns-in_err-count-clause-calls g c =
@@ -103,7 +103,7 @@ returns-in-Some-clause-ending g c =
     (gave_all s o p q (fed ++ piece) written c.advance.new.out (is_nothing piece) at gave) brings cause counted)
 
 pub returns-in-Some-clause-engine : goal.returns-in-Some-clause-engine
-returns-in-Some-clause-engine g c = let (fed, written, kept, taken, due, goes_on, calls) = c.loop.invariant.7 in c.advance.ensures.engine ∙ kept.system_is ∙ c.loop.invariant.4
+returns-in-Some-clause-engine g c = let (fed, written, kept, taken, due, goes_on, calls) = c.loop.invariant.7 in c.advance.ensures.engine ∙ kept.waits.in_step.system_is ∙ kept.waits.system_is ∙ c.loop.invariant.4
 
 pub returns-in-Some-clause-set : goal.returns-in-Some-clause-set
 returns-in-Some-clause-set g c = c.advance.ensures.set ∙ c.loop.invariant.6.0
