@@ -1,0 +1,3 @@
+pub mod Kinds
+pub mod Breaking
+pub mod inner
