@@ -1,0 +1,10 @@
+pub mod Tokens
+pub mod ItemNames
+pub mod Made
+pub mod MadeNames
+pub mod Named
+pub mod Inputs
+pub mod Updates
+pub mod Spelled
+pub mod Bare
+pub mod OneSpelling
