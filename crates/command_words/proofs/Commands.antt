@@ -6,28 +6,33 @@ use Rattle.std.specs.List.{list_any}
 use Rattle.std.proofs.lemmas.Bool.{le-leb, leb-true, and_parts}
 use Rattle.tsl_value.specs.Literal.{are_digits}
 use Rattle.tsl_value.specs.declared.limits.TheConstants.{MOST_TRACE_BYTES}
-use Rattle.clap.specs.Matches.{first_value}
+use Rattle.clap.specs.Matches.{first_value, found_of}
 use Rattle.clap.specs.Walk.{Text}
+use Rattle.clap.specs.declared.parser.matches.ArgMatches.{ArgMatches}
 use Rattle.clap.specs.declared.parser.matches.Found.{Found}
-use Rattle.command_words.specs.inner.Reader.{Holds, IsRefused, run_found}
-use Rattle.command_words.specs.declared.words.Command.{Command as CodeCommand}
-use Rattle.command_words.specs.declared.words.Workload.{Workload}
+use Rattle.command_words.specs.inner.Reader.{Holds, IsRefused, Matches, run_found}
+use Rattle.command_words.specs.declared.command.Command.{Command}
+use Rattle.command_words.specs.declared.command.Command.TheVariants as command
+use Rattle.command_words.specs.declared.command.Form.{Form}
+use Rattle.command_words.specs.declared.command.Form.TheVariants as form
+use Rattle.command_words.specs.declared.command.Run.{Run}
+use Rattle.command_words.specs.declared.command.Workload.{Workload}
 use Rattle.command_words.specs.declared.words.Verb.{Verb}
 use Rattle.command_words.specs.declared.words.Verb.TheVariants as verb
-use Rattle.command_words.specs.Words.{IsLimited, IsLimitedRun, IsLimitedCount, Command, until_name, instants_name, bytes_name, strict_flag, stats_flag, Piece, plains, values, uses, are_plain, fits, read, spec_form, run_form, count_form, number, number_or, Run, run_by, run_of, spec_of, kind_of as trace_kind, counted_by, counted_of, first_verb, asked_by, command_asked, command_of, is_empty, check as checks, flat as flattens, show as shows, code as codes_of, run as runs, generate, bench}
+use Rattle.command_words.specs.Words.{IsLimited, IsLimitedRun, IsLimitedCount, until_name, instants_name, bytes_name, strict_flag, stats_flag, Piece, plains, values, uses, are_plain, fits, read, one_room, run_room, pair_room, number, number_or, run_by, run_of, spec_of, kind_of as trace_kind, counted_by, counted_of, first_verb, asked_by, command_of, is_empty}
 use Rattle.command_words.specs.declared.limits.TheConstants.{MOST_TIME, MOST_INSTANTS, MOST_LINES}
 
-fits_run : (ps : List Piece) (found : Found) → Holds ps found → fits run_form ps ≡ true
+fits_run : (ps : List Piece) (found : Found) → Holds ps found → fits run_room ps ≡ true
 fits_run ps found h = rw (le-leb _ _ h.some_word, le-leb _ _ h.few_words, le-leb _ _ (h.one_value until_name), le-leb _ _ (h.one_value instants_name), le-leb _ _ (h.one_value bytes_name), le-leb _ _ (h.one_use strict_flag), le-leb _ _ (h.one_use stats_flag)) refl
 
-pub run_held : (ps : List Piece) (found : Found) → Holds ps found → option_and_then run_of (if fits run_form ps then Some ps else None) ≡ run_found found (nat_le 1 (length (uses strict_flag ps))) (nat_le 1 (length (uses stats_flag ps)))
+pub run_held : (ps : List Piece) (found : Found) → Holds ps found → option_and_then run_of (if fits run_room ps then Some ps else None) ≡ run_found found (nat_le 1 (length (uses strict_flag ps))) (nat_le 1 (length (uses stats_flag ps)))
 run_held ps found h = ap (λ b. option_and_then run_of (if b then Some ps else None)) (fits_run ps found h) ∙ same
   where
     same : run_of ps ≡ run_found found (nat_le 1 (length (uses strict_flag ps))) (nat_le 1 (length (uses stats_flag ps)))
     same = rw (h.first, h.second, h.named until_name, h.named instants_name, h.named bytes_name) refl
 
 abbrev told_spec : List Piece → Option Text
-told_spec ps = option_and_then spec_of (if fits spec_form ps then Some ps else None)
+told_spec ps = option_and_then spec_of (if fits one_room ps then Some ps else None)
 
 unless : (a b c : Bool) → c ≡ false → (a && (b && c)) ≡ false
 unless true true c e = e
@@ -48,7 +53,7 @@ spec_with_options ps h = sym (ap (λ b. option_and_then spec_of (if b then Some 
 by_plains : (ps : List Piece) (xs : List Text) → plains ps ≡ xs → are_plain ps ≡ true → is_some (slice_get xs 1) ≡ false → 1 ≤ length xs → slice_get (plains ps) 0 ≡ told_spec ps
 by_plains ps [] e p s some = let bad : ⊥ = omega arith in absurd bad
 by_plains ps (x ∷ []) e p s some =
-    let is : fits spec_form ps ≡ true = rw (e, p) refl in
+    let is : fits one_room ps ≡ true = rw (e, p) refl in
     sym (ap (λ b. option_and_then spec_of (if b then Some ps else None)) is)
 by_plains ps (x ∷ y ∷ xs) e p s some = let bad : true ≡ false = s in cc
 
@@ -61,7 +66,7 @@ pub spec_alone : (ps : List Piece) (found : Found) (spec trace : Option (Bor Tex
 spec_alone ps found spec trace h a b none p =
     a ∙ (h.first ∙ by_plains ps (plains ps) refl (affirmed (are_plain ps) p) (now_some trace (slice_get (plains ps) 1) (b ∙ h.second) ∙ none) h.some_word)
 
-two_words : (ps : List Piece) (xs : List Text) → plains ps ≡ xs → is_some (slice_get xs 1) ≡ true → fits spec_form ps ≡ false
+two_words : (ps : List Piece) (xs : List Text) → plains ps ≡ xs → is_some (slice_get xs 1) ≡ true → fits one_room ps ≡ false
 two_words ps [] e s = let bad : false ≡ true = s in cc
 two_words ps (x ∷ []) e s = let bad : false ≡ true = s in cc
 two_words ps (x ∷ y ∷ xs) e s = many (nat_le (length (plains ps)) 1) refl
@@ -89,6 +94,14 @@ refused_by words verb.Show h = rw h.spec refl
 refused_by words verb.Code h = rw h.spec refl
 refused_by words verb.Generate h = rw h.count refl
 refused_by words verb.Bench h = rw h.count refl
+
+-- a text of a form is asked for by the pieces that the matches hold
+pub written_asked : (f : Form) (words : List Text) (m : ArgMatches) (asked : Option Command)
+    → ((ps : List Piece) → Holds ps (found_of m) → asked ≡ option_map (λ (spec : Text). command.Write spec f) (option_and_then spec_of (if fits one_room ps then Some ps else None)))
+    → Matches words m → asked ≡ option_map (λ (spec : Text). command.Write spec f) (option_and_then spec_of (read one_room words))
+written_asked f words m asked says (ps, is, holds) =
+    says ps holds
+    ∙ sym (ap (λ (told : Option (List Piece)). option_map (λ (spec : Text). command.Write spec f) (option_and_then spec_of (option_and_then (λ ps. if fits one_room ps then Some ps else None) told))) is)
 
 -- ---- what holds of each command
 
@@ -147,20 +160,20 @@ run_limited ps r e =
 
 asked_limited : (v : Verb) (words : List Text) (c : Command) → asked_by v words ≡ Some c → IsLimited c
 asked_limited verb.Run words c e =
-    let r = map_some runs _ c e in
-    let ps = then_some run_of (read run_form words) r.0 r.1 in
+    let r = map_some command.Run _ c e in
+    let ps = then_some run_of (read run_room words) r.0 r.1 in
     subst IsLimited r.2 (run_limited ps.0 r.0 ps.2)
-asked_limited verb.Check words c e = let r = map_some checks _ c e in subst IsLimited r.2 tt
-asked_limited verb.Flat words c e = let r = map_some flattens _ c e in subst IsLimited r.2 tt
-asked_limited verb.Show words c e = let r = map_some shows _ c e in subst IsLimited r.2 tt
-asked_limited verb.Code words c e = let r = map_some codes_of _ c e in subst IsLimited r.2 tt
+asked_limited verb.Check words c e = let r = map_some (λ (spec : Text). command.Write spec form.Check) _ c e in subst IsLimited r.2 tt
+asked_limited verb.Flat words c e = let r = map_some (λ (spec : Text). command.Write spec form.Flat) _ c e in subst IsLimited r.2 tt
+asked_limited verb.Show words c e = let r = map_some (λ (spec : Text). command.Write spec form.Show) _ c e in subst IsLimited r.2 tt
+asked_limited verb.Code words c e = let r = map_some (λ (spec : Text). command.Write spec form.Code) _ c e in subst IsLimited r.2 tt
 asked_limited verb.Generate words c e =
-    let r = map_some (λ (d : Workload × ℕ). generate d.0 d.1) _ c e in
-    let ps = then_some counted_of (read count_form words) r.0 r.1 in
+    let r = map_some (λ (d : Workload × ℕ). command.Generate d.1) _ c e in
+    let ps = then_some counted_of (read pair_room words) r.0 r.1 in
     subst IsLimited r.2 (counted_limited (slice_get (plains ps.0) 0) (slice_get (plains ps.0) 1) r.0 ps.2)
 asked_limited verb.Bench words c e =
-    let r = map_some (λ (d : Workload × ℕ). bench d.0 d.1) _ c e in
-    let ps = then_some counted_of (read count_form words) r.0 r.1 in
+    let r = map_some (λ (d : Workload × ℕ). command.Bench d.0 d.1) _ c e in
+    let ps = then_some counted_of (read pair_room words) r.0 r.1 in
     subst IsLimited r.2 (counted_limited (slice_get (plains ps.0) 0) (slice_get (plains ps.0) 1) r.0 ps.2)
 
 unless_empty : {X : Type 0} (b : Bool) (o : Option X) (x : X) → (if b then None else o) ≡ Some x → o ≡ Some x
@@ -172,9 +185,9 @@ command_is_limited words c e =
     let told = then_some (λ v. asked_by v (drop 1 words)) (first_verb words) c (unless_empty (list_any is_empty words) _ c e) in
     asked_limited told.0 (drop 1 words) c told.2
 
-pub are_limited : (v : Verb) (words : List Text) (o : Option CodeCommand) → option_map command_asked o ≡ asked_by v words → IfSome o (λ c. IsLimited (command_asked c))
+pub are_limited : (v : Verb) (words : List Text) (o : Option Command) → o ≡ asked_by v words → IfSome o IsLimited
 are_limited v words None e = tt
-are_limited v words (Some c) e = asked_limited v words (command_asked c) (sym e)
+are_limited v words (Some c) e = asked_limited v words c (sym e)
 
 pub told_when : (words : List Text) (v : Verb) → list_any is_empty words ≡ false → first_verb words ≡ Some v → command_of words ≡ asked_by v (drop 1 words)
 told_when words v e f = rw (e, f) refl

@@ -18,7 +18,7 @@ use Rattle.clap.specs.declared.error.kind.ErrorKind.{ErrorKind}
 use Rattle.clap.specs.declared.builder.value_parser.Reading.TheVariants.{AsWritten}
 use Rattle.clap.specs.declared.parser.matches.ValueSource.TheVariants.{DefaultValue}
 use Rattle.command_words.specs.inner.Reader.{IsRefused, Matches, flag_id, flag_rule, id_of, option_rule, run_app, spec_rule, trace_rule}
-use Rattle.command_words.specs.Words.{Form, Name, until_name, instants_name, bytes_name, Flag, strict_flag, stats_flag, Piece, plain, option, flag, Class, whole, waits, ends, refused, is_dashed, is_equals, value_in, class_of, named_class, before, pieces, plains, values, uses, fits, read, spec_form, run_form, count_form}
+use Rattle.command_words.specs.Words.{Room, Name, until_name, instants_name, bytes_name, Flag, strict_flag, stats_flag, Piece, plain, option, flag, Class, whole, waits, ends, refused, is_dashed, is_equals, value_in, class_of, named_class, before, pieces, plains, values, uses, fits, read, one_room, run_room, pair_room}
 use Rattle.command_words.proofs.WordRows.{row, flag_row, rows_from, any_row, has_chosen, flag_other, chosen_name, chosen_spec, chosen_trace, defaulted, flag_no_spec, flag_no_trace, fresh_row, rows_more, has_name, has_flag, Fits, plains_then, fits_plain, fits_flag, fits_option, unfit_plain, unfit_flag, unfit_option, default_row, final, first_final, first_taken, second_dropped, flag_final, spec_given}
 use Rattle.command_words.proofs.WordTurns.{is_exact, spec_slot, trace_slot, name_slot, S, R, HasFault, left_fault, Look, look, Named, named, rest_name, name_after, value_after, at, fault_from, end_rows, pass_turn, stop_turn, pass_rows, held, quiet_settle, loud_settle, slot_rows, empty_settle, positional_spec, positional_trace, spec_placed, trace_placed, plain_turn, plain_walked, trailing_turn, trailing_walked, end_turn, end_walked, value_turn, value_walked, short_turn, first_char, long_turn, long_turn_is, long_walk, long_walk_is, loud_long, unknown_long, option_turn, option_walked, joined_turn, joined_again, joined_walked, flag_turn, flag_again, flag_valued, flag_walked, Texts, loud_trailing, loud_idle, undashed, end_mark, long, short, to_option, to_flag, to_none}
 
@@ -408,9 +408,9 @@ defaults_quiet rows =
 
 -- ---- the two answers
 
--- pieces that fit a form in which each option and each flag stands once at most
-fits_form : (form : Form) (ps : List Piece) → form.most ≤ 2 → form.options ≤ 1 → form.flags ≤ 1 → fits form ps ≡ true → Fits ps
-fits_form form ps most options flags h =
+-- pieces that have room where each option and each flag stands once at most
+fits_room : (room : Room) (ps : List Piece) → room.most ≤ 2 → room.options ≤ 1 → room.flags ≤ 1 → fits room ps ≡ true → Fits ps
+fits_room room ps most options flags h =
     let a = and_parts _ _ h in
     let b = and_parts _ _ a.1 in
     let c = and_parts _ _ b.1 in
@@ -418,52 +418,52 @@ fits_form form ps most options flags h =
     let e = and_parts _ _ d.1 in
     let g = and_parts _ _ e.1 in
     record {
-      words = let few = leb-true (length (plains ps)) form.most b.0 in omega arith;
-      options = each (leb-true _ form.options c.0) (leb-true _ form.options d.0) (leb-true _ form.options e.0);
-      once = single (leb-true _ form.flags g.0) (leb-true _ form.flags g.1);
+      words = let few = leb-true (length (plains ps)) room.most b.0 in omega arith;
+      options = each (leb-true _ room.options c.0) (leb-true _ room.options d.0) (leb-true _ room.options e.0);
+      once = single (leb-true _ room.flags g.0) (leb-true _ room.flags g.1);
     }
   where
-    each : length (values until_name ps) ≤ form.options → length (values instants_name ps) ≤ form.options → length (values bytes_name ps) ≤ form.options → (name : Name) → length (values name ps) ≤ 1
+    each : length (values until_name ps) ≤ room.options → length (values instants_name ps) ≤ room.options → length (values bytes_name ps) ≤ room.options → (name : Name) → length (values name ps) ≤ 1
     each a b c until_name = omega arith
     each a b c instants_name = omega arith
     each a b c bytes_name = omega arith
 
-    single : length (uses strict_flag ps) ≤ form.flags → length (uses stats_flag ps) ≤ form.flags → (f : Flag) → length (uses f ps) ≤ 1
+    single : length (uses strict_flag ps) ≤ room.flags → length (uses stats_flag ps) ≤ room.flags → (f : Flag) → length (uses f ps) ≤ 1
     single a b strict_flag = omega arith
     single a b stats_flag = omega arith
 
--- no form
+-- none has room
 pub record FitsNone (ps : List Piece) : Type 0 where
-  pub run : fits run_form ps ≡ false
-  pub spec : fits spec_form ps ≡ false
-  pub count : fits count_form ps ≡ false
+  pub run : fits run_room ps ≡ false
+  pub spec : fits one_room ps ≡ false
+  pub count : fits pair_room ps ≡ false
 
-unfit_form : (form : Form) (ps : List Piece) → form.most ≤ 2 → form.options ≤ 1 → form.flags ≤ 1 → (Fits ps → ⊥) → fits form ps ≡ false
-unfit_form form ps most options flags unfit = go (fits form ps) refl
+unfit_room : (room : Room) (ps : List Piece) → room.most ≤ 2 → room.options ≤ 1 → room.flags ≤ 1 → (Fits ps → ⊥) → fits room ps ≡ false
+unfit_room room ps most options flags unfit = go (fits room ps) refl
   where
-    go : (q : Bool) → fits form ps ≡ q → q ≡ false
-    go true h = absurd (unfit (fits_form form ps most options flags h))
+    go : (q : Bool) → fits room ps ≡ q → q ≡ false
+    go true h = absurd (unfit (fits_room room ps most options flags h))
     go false h = refl
 
 unfit_all : (ps : List Piece) → (Fits ps → ⊥) → FitsNone ps
 unfit_all ps unfit = record {
-  run = unfit_form run_form ps (omega arith) (omega arith) (omega arith) unfit;
-  spec = unfit_form spec_form ps (omega arith) (omega arith) (omega arith) unfit;
-  count = unfit_form count_form ps (omega arith) (omega arith) (omega arith) unfit;
+  run = unfit_room run_room ps (omega arith) (omega arith) (omega arith) unfit;
+  spec = unfit_room one_room ps (omega arith) (omega arith) (omega arith) unfit;
+  count = unfit_room pair_room ps (omega arith) (omega arith) (omega arith) unfit;
 }
 
 wordless : (ps : List Piece) → plains ps ≡ [] → FitsNone ps
 wordless ps e = record { run = rw e refl; spec = rw e refl; count = rw e refl }
 
-read_none : (form : Form) (words : List Text) (told : Option (List Piece)) → pieces None words ≡ told → ((ps : List Piece) → told ≡ Some ps → fits form ps ≡ false) → read form words ≡ None
-read_none form words None e unfit = ap (option_and_then (λ ps. if fits form ps then Some ps else None)) e
-read_none form words (Some ps) e unfit = ap (option_and_then (λ ps. if fits form ps then Some ps else None)) e ∙ ap (λ b. if b then Some ps else None) (unfit ps refl)
+read_none : (room : Room) (words : List Text) (told : Option (List Piece)) → pieces None words ≡ told → ((ps : List Piece) → told ≡ Some ps → fits room ps ≡ false) → read room words ≡ None
+read_none room words None e unfit = ap (option_and_then (λ ps. if fits room ps then Some ps else None)) e
+read_none room words (Some ps) e unfit = ap (option_and_then (λ ps. if fits room ps then Some ps else None)) e ∙ ap (λ b. if b then Some ps else None) (unfit ps refl)
 
 refused_when : (words : List Text) (told : Option (List Piece)) → pieces None words ≡ told → ((ps : List Piece) → told ≡ Some ps → FitsNone ps) → IsRefused words
 refused_when words told e none = record {
-  run = read_none run_form words told e (λ ps is. (none ps is).run);
-  spec = read_none spec_form words told e (λ ps is. (none ps is).spec);
-  count = read_none count_form words told e (λ ps is. (none ps is).count);
+  run = read_none run_room words told e (λ ps is. (none ps is).run);
+  spec = read_none one_room words told e (λ ps is. (none ps is).spec);
+  count = read_none pair_room words told e (λ ps is. (none ps is).count);
 }
 
 or_none : (a b : Kinds) → or_else a b ≡ [] → (a ≡ []) × (b ≡ [])

@@ -6,36 +6,16 @@ use Rattle.std.specs.Str.{bytes_eq}
 use Rattle.std.specs.Str.Parse.{digits_value}
 use Rattle.tsl_value.specs.Literal.{are_digits}
 use Rattle.tsl_value.specs.declared.limits.TheConstants.{MOST_TRACE_BYTES}
-use Rattle.command_words.specs.declared.words.Command.{Command as CodeCommand}
-use Rattle.command_words.specs.declared.words.Command.TheVariants as asked
-use Rattle.command_words.specs.declared.words.Workload.{Workload}
-use Rattle.command_words.specs.declared.words.Workload.TheVariants as kind
-use Rattle.command_words.specs.declared.words.Run.{Run as CodeRun}
+use Rattle.command_words.specs.declared.command.Command.{Command}
+use Rattle.command_words.specs.declared.command.Command.TheVariants as command
+use Rattle.command_words.specs.declared.command.Form.TheVariants as form
+use Rattle.command_words.specs.declared.command.Run.{Run}
+use Rattle.command_words.specs.declared.command.Workload.{Workload}
+use Rattle.command_words.specs.declared.command.Workload.TheVariants as kind
 use Rattle.command_words.specs.declared.words.Verb.{Verb}
 use Rattle.command_words.specs.declared.words.Verb.TheVariants as verb
 use Rattle.command_words.specs.declared.words.Word.{Word}
 use Rattle.command_words.specs.declared.limits.TheConstants.{MOST_TIME, MOST_INSTANTS, MOST_LINES}
-
--- a run: the names of the specification and of the trace, the time up to which times are closed at the end of the trace,
--- how many instants and bytes it may have, whether the trace is read strictly, and whether copies are told at the end
-pub record Run : Type 0 where
-  pub spec : List ℕ
-  pub trace : List ℕ
-  pub until : ℕ
-  pub instants : ℕ
-  pub bytes : ℕ
-  pub strict : Bool
-  pub stats : Bool
-
--- what words ask for: one of the first four with the name of a specification, a run, or a trace of a kind with so many lines
-pub data Command : Type 0 where
-  check : List ℕ → Command
-  flat : List ℕ → Command
-  show : List ℕ → Command
-  code : List ℕ → Command
-  run : Run → Command
-  generate : Workload → ℕ → Command
-  bench : Workload → ℕ → Command
 
 -- the options that have a value
 pub data Name : Type 0 where
@@ -176,19 +156,19 @@ number_or other least most (Some word) = number least most word
 
 -- which words stand after a command's name: how many plain ones at least and at most, and how often each option and each
 -- flag at most
-pub record Form : Type 0 where
+pub record Room : Type 0 where
   pub least : ℕ
   pub most : ℕ
   pub options : ℕ
   pub flags : ℕ
 
--- pieces of this form
-abbrev pub fits : Form → List Piece → Bool
-fits form ps =
-    nat_le form.least (length (plains ps)) && (nat_le (length (plains ps)) form.most
-    && (nat_le (length (values until_name ps)) form.options && (nat_le (length (values instants_name ps)) form.options
-    && (nat_le (length (values bytes_name ps)) form.options
-    && (nat_le (length (uses strict_flag ps)) form.flags && nat_le (length (uses stats_flag ps)) form.flags)))))
+-- pieces that have room
+abbrev pub fits : Room → List Piece → Bool
+fits room ps =
+    nat_le room.least (length (plains ps)) && (nat_le (length (plains ps)) room.most
+    && (nat_le (length (values until_name ps)) room.options && (nat_le (length (values instants_name ps)) room.options
+    && (nat_le (length (values bytes_name ps)) room.options
+    && (nat_le (length (uses strict_flag ps)) room.flags && nat_le (length (uses stats_flag ps)) room.flags)))))
 
 -- only plain words
 abbrev pub are_plain : List Piece → Bool
@@ -196,21 +176,21 @@ are_plain ps =
     nat_le (length (values until_name ps)) 0 && (nat_le (length (values instants_name ps)) 0 && (nat_le (length (values bytes_name ps)) 0
     && (nat_le (length (uses strict_flag ps)) 0 && nat_le (length (uses stats_flag ps)) 0)))
 
--- the pieces of words of this form
-abbrev pub read : Form → List (List ℕ) → Option (List Piece)
-read form words = option_and_then (λ ps. if fits form ps then Some ps else None) (pieces None words)
+-- the pieces of words that have room
+abbrev pub read : Room → List (List ℕ) → Option (List Piece)
+read room words = option_and_then (λ ps. if fits room ps then Some ps else None) (pieces None words)
 
 -- `SPEC`
-abbrev pub spec_form : Form
-spec_form = record { least = 1; most = 1; options = 0; flags = 0 }
+abbrev pub one_room : Room
+one_room = record { least = 1; most = 1; options = 0; flags = 0 }
 
 -- `SPEC [TRACE]` with all options and flags
-abbrev pub run_form : Form
-run_form = record { least = 1; most = 2; options = 1; flags = 1 }
+abbrev pub run_room : Room
+run_room = record { least = 1; most = 2; options = 1; flags = 1 }
 
 -- `KIND N`
-abbrev pub count_form : Form
-count_form = record { least = 2; most = 2; options = 0; flags = 0 }
+abbrev pub pair_room : Room
+pair_room = record { least = 2; most = 2; options = 0; flags = 0 }
 
 -- the run of these values. Where the trace has no name it is `-`, the standard input
 abbrev pub run_by : Option (List ℕ) → Option (List ℕ) → Option (List ℕ) → Option (List ℕ) → Option (List ℕ) → Bool → Bool → Option Run
@@ -265,13 +245,13 @@ verb_of word =
 
 -- what is asked for after the name of a command
 abbrev pub asked_by : Verb → List (List ℕ) → Option Command
-asked_by verb.Run words = option_map run (option_and_then run_of (read run_form words))
-asked_by verb.Check words = option_map check (option_and_then spec_of (read spec_form words))
-asked_by verb.Flat words = option_map flat (option_and_then spec_of (read spec_form words))
-asked_by verb.Show words = option_map show (option_and_then spec_of (read spec_form words))
-asked_by verb.Code words = option_map code (option_and_then spec_of (read spec_form words))
-asked_by verb.Generate words = option_map (λ c. generate c.0 c.1) (option_and_then counted_of (read count_form words))
-asked_by verb.Bench words = option_map (λ c. bench c.0 c.1) (option_and_then counted_of (read count_form words))
+asked_by verb.Run words = option_map command.Run (option_and_then run_of (read run_room words))
+asked_by verb.Check words = option_map (λ spec. command.Write spec form.Check) (option_and_then spec_of (read one_room words))
+asked_by verb.Flat words = option_map (λ spec. command.Write spec form.Flat) (option_and_then spec_of (read one_room words))
+asked_by verb.Show words = option_map (λ spec. command.Write spec form.Show) (option_and_then spec_of (read one_room words))
+asked_by verb.Code words = option_map (λ spec. command.Write spec form.Code) (option_and_then spec_of (read one_room words))
+asked_by verb.Generate words = option_map (λ c. command.Generate c.1) (option_and_then counted_of (read pair_room words))
+asked_by verb.Bench words = option_map (λ c. command.Bench c.0 c.1) (option_and_then counted_of (read pair_room words))
 
 -- the command that the first word names
 abbrev pub first_verb : List (List ℕ) → Option Verb
@@ -301,31 +281,7 @@ pub record IsLimitedCount (n : ℕ) : Type 0 where
 
 -- what holds of each command that is asked for
 abbrev pub IsLimited : Command → Type 0
-IsLimited (check spec) = ⊤
-IsLimited (flat spec) = ⊤
-IsLimited (show spec) = ⊤
-IsLimited (code spec) = ⊤
-IsLimited (run r) = IsLimitedRun r
-IsLimited (generate k n) = IsLimitedCount n
-IsLimited (bench k n) = IsLimitedCount n
-
--- what the code answers
-abbrev pub run_asked : CodeRun → Run
-run_asked asked = record {
-  spec = asked.spec.now;
-  trace = asked.trace.now;
-  until = asked.until;
-  instants = asked.instants;
-  bytes = asked.bytes;
-  strict = asked.strict;
-  stats = asked.stats;
-}
-
-abbrev pub command_asked : CodeCommand → Command
-command_asked (asked.Check spec) = check spec.now
-command_asked (asked.Flat spec) = flat spec.now
-command_asked (asked.Show spec) = show spec.now
-command_asked (asked.Code spec) = code spec.now
-command_asked (asked.Run r) = run (run_asked r)
-command_asked (asked.Generate k n) = generate k n
-command_asked (asked.Bench k n) = bench k n
+IsLimited (command.Write spec f) = ⊤
+IsLimited (command.Run r) = IsLimitedRun r
+IsLimited (command.Generate n) = IsLimitedCount n
+IsLimited (command.Bench k n) = IsLimitedCount n

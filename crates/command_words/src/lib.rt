@@ -1,5 +1,6 @@
 //! The words after the program's name, and what they ask for.
 #![tactic(auto)]
 
+pub mod command;
 pub mod limits;
 pub mod words;

@@ -10,10 +10,11 @@ ghost use Rattle.std.specs.Char.{is_ascii_digit};
 ghost use Rattle.tsl_value.specs.Literal.{are_digits};
 ghost use Rattle.clap.specs.Words.{app_of, found_of};
 ghost use Rattle.command_words.specs.inner.Reader.{Holds, IsRefused, Matches, run_app, run_found, says};
-ghost use Rattle.command_words.specs.Words.{IsLimited, Piece, are_plain, asked_by, command_asked, command_of, count_form, counted_of};
-ghost use Rattle.command_words.specs.Words.{first_verb, fits, is_empty, kind_of, number, number_or, plains, run_asked, run_form, run_of};
-ghost use Rattle.command_words.specs.Words.{spec_form, spec_of, texts_of, verb_of};
+ghost use Rattle.command_words.specs.Words.{IsLimited, Piece, are_plain, asked_by, command_of, counted_of, first_verb, fits, is_empty};
+ghost use Rattle.command_words.specs.Words.{kind_of, number, number_or, one_room, pair_room, plains, run_of, run_room, spec_of, texts_of};
+ghost use Rattle.command_words.specs.Words.{verb_of};
 
+use crate::command::{Command, Form, Run, Workload};
 use crate::limits::{MOST_INSTANTS, MOST_LINES, MOST_TIME};
 use clap::error::ErrorKind;
 use clap::{Arg, ArgAction, ArgMatches};
@@ -73,28 +74,6 @@ impl Words {
     }
 }
 
-/// A kind of generated traces.
-#[derive(Clone, Copy)]
-pub enum Workload {
-    Seen,
-    Copy,
-}
-
-/// What a run asks for.
-#[derive(Clone, Copy)]
-pub struct Run<'a> {
-    pub spec: &'a str,
-    /// The trace's name; `-`, the standard input, where the words name none.
-    pub trace: &'a str,
-    /// Times up to this one are closed at the end of the trace; 0 where the words don't say.
-    pub until: u64,
-    pub instants: u64,
-    pub bytes: u64,
-    pub strict: bool,
-    /// Whether the end tells how much was copied.
-    pub stats: bool,
-}
-
 /// The names of the commands.
 #[derive(Clone, Copy)]
 enum Verb {
@@ -105,24 +84,6 @@ enum Verb {
     Run,
     Generate,
     Bench,
-}
-
-/// What the words ask for.
-#[derive(Clone, Copy)]
-pub enum Command<'a> {
-    /// To compile the specification.
-    Check { spec: &'a str },
-    /// To print its equations.
-    Flat { spec: &'a str },
-    /// To print which of its updates happen in place, and why the others copy.
-    Show { spec: &'a str },
-    /// To print its register code.
-    Code { spec: &'a str },
-    Run(Run<'a>),
-    /// To print a trace with so many lines.
-    Generate { kind: Workload, count: u64 },
-    /// To monitor that trace.
-    Bench { kind: Workload, count: u64 },
 }
 
 fn are_digits(word: &str) -> bool
@@ -186,39 +147,48 @@ fn number_or(word: Option<&str>, other: u64, least: u64, most: u64) -> Option<u6
 }
 
 /// The run that the values in the matches ask for.
-fn run_found<'a>(matches: &ArgMatches<'a>) -> Option<Run<'a>>
-    ensures { (strict stats : Bool)
+fn run_found(alloc: Global, matches: &ArgMatches<'_>) -> Result<Option<Run>, NoMemory>
+    ensures { IfOk result (λ run. (strict stats : Bool)
         → says (found_of matches.now) (codes "strict") strict
         → says (found_of matches.now) (codes "stats") stats
-        → option_map run_asked result ≡ run_found (found_of matches.now) strict stats }
+        → run ≡ run_found (found_of matches.now) strict stats) }
 {
-    let spec = matches.get_str("spec")?;
+    let Some(spec) = matches.get_str("spec") else {
+        return Ok(None);
+    };
     let trace = matches.get_str("trace").unwrap_or("-");
-    let until = number_or(matches.get_str("until"), 0, 0, MOST_TIME)?;
-    let instants = number_or(matches.get_str("instants"), MOST_INSTANTS, 1, MOST_INSTANTS)?;
-    let bytes = number_or(
+    let Some(until) = number_or(matches.get_str("until"), 0, 0, MOST_TIME) else {
+        return Ok(None);
+    };
+    let Some(instants) = number_or(matches.get_str("instants"), MOST_INSTANTS, 1, MOST_INSTANTS)
+    else {
+        return Ok(None);
+    };
+    let Some(bytes) = number_or(
         matches.get_str("bytes"),
         MOST_TRACE_BYTES,
         1,
         MOST_TRACE_BYTES,
-    )?;
-    Some(Run {
-        spec,
-        trace,
+    ) else {
+        return Ok(None);
+    };
+    Ok(Some(Run {
+        spec: Text::from_str(alloc, spec)?,
+        trace: Text::from_str(alloc, trace)?,
         until,
         instants,
         bytes,
         strict: matches.get_flag("strict"),
         stats: matches.get_flag("stats"),
-    })
+    }))
 }
 
 /// The run that the matches ask for.
-fn run_by<'a>(matches: &ArgMatches<'a>) -> Option<Run<'a>>
-    ensures { (ps : List Piece) → Holds ps (found_of matches.now)
-        → option_map run_asked result ≡ option_and_then run_of (if fits run_form ps then Some ps else None) }
+fn run_by(alloc: Global, matches: &ArgMatches<'_>) -> Result<Option<Run>, NoMemory>
+    ensures { IfOk result (λ run. (ps : List Piece) → Holds ps (found_of matches.now)
+        → run ≡ option_and_then run_of (if fits run_room ps then Some ps else None)) }
 {
-    run_found(matches)
+    run_found(alloc, matches)
 }
 
 /// Whether an option or a flag stands.
@@ -236,7 +206,7 @@ fn has_options(matches: &ArgMatches<'_>) -> bool
 #[tactic(auto, using(crate::proofs::Commands::spec_alone, crate::proofs::Commands::spec_with_more, crate::proofs::Commands::spec_with_options))]
 fn spec_by<'a>(matches: &ArgMatches<'a>) -> Option<&'a str>
     ensures { (ps : List Piece) → Holds ps (found_of matches.now)
-        → option_map (λ s. s.now) result ≡ option_and_then spec_of (if fits spec_form ps then Some ps else None) }
+        → option_map (λ s. s.now) result ≡ option_and_then spec_of (if fits one_room ps then Some ps else None) }
 {
     if has_options(matches) {
         return None;
@@ -260,7 +230,7 @@ fn kind_of(word: &str) -> Option<Workload>
 /// The kind and the number of lines that the matches ask for, where nothing else stands.
 fn counted_by(matches: &ArgMatches<'_>) -> Option<(Workload, u64)>
     ensures { (ps : List Piece) → Holds ps (found_of matches.now)
-        → result ≡ option_and_then counted_of (if fits count_form ps then Some ps else None) }
+        → result ≡ option_and_then counted_of (if fits pair_room ps then Some ps else None) }
 {
     if has_options(matches) {
         return None;
@@ -324,32 +294,49 @@ fn verb_of(word: &str) -> Option<Verb>
     }
 }
 
+/// The text of a form that the matches ask for.
+fn written_by(
+    alloc: Global,
+    matches: &ArgMatches<'_>,
+    form: Form,
+) -> Result<Option<Command>, NoMemory>
+    ensures { IfOk result (λ asked. (ps : List Piece) → Holds ps (found_of matches.now)
+        → asked ≡ option_map (λ spec. Command.Write spec form) (option_and_then spec_of (if fits one_room ps then Some ps else None))) }
+{
+    match spec_by(matches) {
+        Some(spec) => Ok(Some(Command::Write {
+            spec: Text::from_str(alloc, spec)?,
+            form,
+        })),
+        None => Ok(None),
+    }
+}
+
 /// What the matches after the name of a command ask for.
-fn command_by<'a>(verb: Verb, matches: &ArgMatches<'a>) -> Option<Command<'a>>
-    ensures { (words : List (List ℕ)) → Matches words matches.now → option_map command_asked result ≡ asked_by verb words }
+fn command_by(
+    alloc: Global,
+    verb: Verb,
+    matches: &ArgMatches<'_>,
+) -> Result<Option<Command>, NoMemory>
+    ensures { IfOk result (λ asked. (words : List (List ℕ)) → Matches words matches.now → asked ≡ asked_by verb words) }
 {
     match verb {
-        Verb::Run => Some(Command::Run(run_by(matches)?)),
-        Verb::Check => Some(Command::Check {
-            spec: spec_by(matches)?,
-        }),
-        Verb::Flat => Some(Command::Flat {
-            spec: spec_by(matches)?,
-        }),
-        Verb::Show => Some(Command::Show {
-            spec: spec_by(matches)?,
-        }),
-        Verb::Code => Some(Command::Code {
-            spec: spec_by(matches)?,
-        }),
-        Verb::Generate => {
-            let (kind, count) = counted_by(matches)?;
-            Some(Command::Generate { kind, count })
-        }
-        Verb::Bench => {
-            let (kind, count) = counted_by(matches)?;
-            Some(Command::Bench { kind, count })
-        }
+        Verb::Run => match run_by(alloc, matches)? {
+            Some(run) => Ok(Some(Command::Run(run))),
+            None => Ok(None),
+        },
+        Verb::Check => written_by(alloc, matches, Form::Check),
+        Verb::Flat => written_by(alloc, matches, Form::Flat),
+        Verb::Show => written_by(alloc, matches, Form::Show),
+        Verb::Code => written_by(alloc, matches, Form::Code),
+        Verb::Generate => match counted_by(matches) {
+            Some((_, lines)) => Ok(Some(Command::Generate { lines })),
+            None => Ok(None),
+        },
+        Verb::Bench => match counted_by(matches) {
+            Some((kind, lines)) => Ok(Some(Command::Bench { kind, lines })),
+            None => Ok(None),
+        },
     }
 }
 
@@ -365,17 +352,13 @@ fn first_verb(words: &[Word]) -> Option<Verb>
 
 /// What the words after the first one ask for.
 #[tactic(auto, using(crate::proofs::Commands::refused_by, crate::proofs::Commands::are_limited))]
-fn asked_after<'a>(
-    alloc: Global,
-    verb: Verb,
-    words: &'a [Word],
-) -> Result<Option<Command<'a>>, NoMemory>
+fn asked_after(alloc: Global, verb: Verb, words: &[Word]) -> Result<Option<Command>, NoMemory>
     requires texts { All IsUtf8 (texts_of words.now) }
-    ensures command { IfOk result (λ asked. option_map command_asked asked ≡ asked_by verb (drop 1 (texts_of words.now))) }
-    ensures limits { IfOk result (λ asked. IfSome asked (λ asked. IsLimited (command_asked asked))) }
+    ensures command { IfOk result (λ asked. asked ≡ asked_by verb (drop 1 (texts_of words.now))) }
+    ensures limits { IfOk result (λ asked. IfSome asked IsLimited) }
 {
     match matched(alloc, words)? {
-        Some(matches) => Ok(command_by(verb, &matches)),
+        Some(matches) => command_by(alloc, verb, &matches),
         None => Ok(None),
     }
 }
@@ -390,9 +373,9 @@ impl Words {
     /// refused there, and all words after it are plain. Numbers are one digit or more: T at most `MOST_TIME`, N of `run`
     /// from 1 to `MOST_INSTANTS`, B from 1 to `MOST_TRACE_BYTES`, N of `gen` and `bench` from 1 to `MOST_LINES`.
     #[tactic(auto, using(crate::proofs::Commands::told_when, crate::proofs::Commands::told_never))]
-    pub fn command(&self, alloc: Global) -> Result<Option<Command<'_>>, NoMemory>
-        ensures command { IfOk result (λ asked. option_map command_asked asked ≡ command_of self.now) }
-        ensures limits { IfOk result (λ asked. IfSome asked (λ asked. IsLimited (command_asked asked))) }
+    pub fn command(&self, alloc: Global) -> Result<Option<Command>, NoMemory>
+        ensures command { IfOk result (λ asked. asked ≡ command_of self.now) }
+        ensures limits { IfOk result (λ asked. IfSome asked IsLimited) }
     {
         let words = self.words.as_slice();
         if has_empty(words) {

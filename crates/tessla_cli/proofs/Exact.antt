@@ -1,14 +1,20 @@
 -- The causes of the endings exclude each other.
-use Rattle.std.proofs.Common.{◌≡◌, ◌⊎◌, inl, inr, ℕ, Bool, true, false, List, Option, Some, None, option_and_then, refl, sym, ◌∙◌, ap, subst}
+use Rattle.std.proofs.Common.{◌≡◌, ◌⊎◌, inl, inr, ℕ, Bool, List, Option, Some, None, refl, sym, ◌∙◌, ap, subst}
+use Rattle.command_words.specs.declared.command.Command.{Command}
+use Rattle.command_words.specs.declared.command.Command.TheVariants as command
+use Rattle.command_words.specs.declared.command.Run.{Run}
+use Rattle.command_words.specs.declared.command.Workload.{Workload}
 use Rattle.flat_core.specs.Line.{Line}
-use Rattle.syntax_tree.specs.Tree as tree
-use Rattle.std.proofs.lemmas.Bool.{true≢false}
 use Rattle.flat_core.specs.System.{System}
+use Rattle.lift_func.specs.declared.fault.FaultKind.{FaultKind}
+use Rattle.syntax_tree.specs.Tree as tree
+use Rattle.tsl_value.specs.declared.place.Place.{Place}
+use Rattle.tsl_world.specs.declared.outside.Channel.TheVariants.{Out}
 use Rattle.tsl_world.specs.declared.outside.Did.{Did}
 use Rattle.tsl_world.specs.declared.outside.Slot.TheVariants.{Spec, Trace}
-use Rattle.tsl_world.specs.Journal.{taken, ended}
-use Rattle.spec_reader.specs.declared.fault.SpecFault.{SpecFault}
+use Rattle.tsl_world.specs.Seen.{Seen, seen}
 use Rattle.spec_compiler.proofs.Kept.{one_is_compiled, refused_compiles_none}
+use Rattle.spec_reader.specs.declared.fault.SpecFault.{SpecFault}
 use Rattle.trace_bench.proofs.Compiling.{refused_benches_none}
 use Rattle.trace_bench.proofs.Endings.{one_ending}
 use Rattle.trace_bench.specs.Bench.{source_of}
@@ -17,19 +23,21 @@ use Rattle.trace_bench.specs.inner.Laws.{AreOfOneKind}
 use Rattle.trace_monitor.specs.declared.ending.RunEnding.{RunEnding}
 use Rattle.trace_monitor.specs.declared.ending.RunEnding.TheVariants as run
 use Rattle.trace_monitor.specs.declared.options.Options.{Options}
+use Rattle.trace_reader.specs.declared.fault.TraceFault.{TraceFault}
 use Rattle.tessla_cli.specs.declared.ending.Ending.{Ending}
 use Rattle.tessla_cli.specs.declared.ending.Ending.TheVariants as ending
-use Rattle.tessla_cli.specs.Alone.{AloneStops, IsAloneText}
-use Rattle.tessla_cli.specs.Conduct.{AloneEnds, EndsRun, EndsPrint, EndsAlone, RunEnds, SpecRefused}
-use Rattle.tessla_cli.specs.Endings.{ending_of}
+use Rattle.tessla_cli.specs.Alone.{BenchStops, IsTallyText}
+use Rattle.tessla_cli.specs.Asked.{options_of}
+use Rattle.tessla_cli.specs.Causes.{BenchCause, Cause, Finishes, RunCause, WriteCause, Stands}
+use Rattle.tessla_cli.specs.Endings.{OfEnding, ending_of}
 use Rattle.tessla_cli.specs.Failures.{Failures}
-use Rattle.tessla_cli.specs.Headline.{OfRun}
+use Rattle.tessla_cli.specs.Headline.{OfSource}
 use Rattle.trace_run.proofs.Causes.{both, long, loud, nothing_some}
-use Rattle.trace_run.specs.Meant.{EndsAsMeant, bound_meant, lines_meant, refused_meant}
+use Rattle.trace_run.specs.Meant.{EndsAsMeant, WatchEndsAsMeant, bound_meant, lines_meant, refused_meant}
 use Rattle.tessla_cli.specs.Messages.{status_of}
 use Rattle.tessla_cli.specs.Outcome.{Concludes, Outcome, IsExact}
 use Rattle.tessla_cli.specs.Outcome.Outcome.{told, outside, memory}
-use Rattle.tessla_cli.specs.Tasks.{Alone, Request, Task, alone, alone_of, asked_of, benched, made, monitor, over, print, requested, with_spec, without_spec}
+use Rattle.tessla_cli.proofs.Told.{stops_not_words}
 
 module _ (items : List tree.Item) (s : System) (o : Options) (bytes : List ℕ) (end : Bool) where
   abbrev lines : List Line
@@ -56,29 +64,6 @@ module _ (items : List tree.Item) (s : System) (o : Options) (bytes : List ℕ) 
   same_status (run.Limit n u) (run.Fault t kind place) a b = absurd (both items lines bound o.instants t u b.0 a.1)
   same_status (run.Limit n t) (run.Limit m u) a b = refl
 
--- the options of a run that is asked for
-abbrev task_options : Options → Task → Options
-task_options o (print f) = o
-task_options o (monitor trace other statistics) = other
-
-abbrev options_or : Options → Option (List ℕ × Task) → Options
-options_or o None = o
-options_or o (Some asked) = task_options o asked.1
-
-abbrev is_print : Task → Bool
-is_print (print f) = true
-is_print (monitor trace o statistics) = false
-
-abbrev pub asks_print : Option (List ℕ × Task) → Bool
-asks_print None = false
-asks_print (Some asked) = is_print asked.1
-
--- what is asked for is done with a specification or without one
-pub apart : (r : Option Request) (asked : List ℕ × Task) (what : Alone) → option_and_then with_spec r ≡ Some asked → option_and_then without_spec r ≡ Some what → ⊥
-apart None asked what a m = absurd (cc)
-apart (Some (over name task)) asked what a m = absurd (cc)
-apart (Some (alone b)) asked what a m = absurd (cc)
-
 -- endings of one kind have one status
 kind_status : (how other : RunEnding) → AreOfOneKind how other → status_of (ending_of how) ≡ status_of (ending_of other)
 kind_status run.Done run.Done same = refl
@@ -98,186 +83,163 @@ kind_status (run.Limit n t) (run.Trace f) same = absurd same
 kind_status (run.Limit n u) (run.Fault t kind place) same = absurd same
 kind_status (run.Limit n t) (run.Limit m u) same = refl
 
--- where there is a text there is no ending without one
-pub text_or_stops : (a : Alone) (text : List ℕ) (by : Ending) → IsAloneText a text → AloneStops a by → ⊥
-text_or_stops (made n) text by is stops = stops
-text_or_stops (benched kind n) text by is (inl (fault, refused, same)) = refused_benches_none (source_of kind) fault n (outcome.Whole is.0) refused is.1
-text_or_stops (benched kind n) text by is (inr (how, stopped, same)) = one_ending (source_of kind) n (outcome.Whole is.0) (outcome.Stopped how) is.1 stopped
+-- where there is a tally there is no ending without one
+tally_or_stops : (kind : Workload) (n : ℕ) (text : List ℕ) (by : Ending) → IsTallyText kind n text → BenchStops kind n by → ⊥
+tally_or_stops kind n text by is (inl (fault, refused, same)) = refused_benches_none (source_of kind) fault n (outcome.Whole is.0) refused is.1
+tally_or_stops kind n text by is (inr (how, stopped, same)) = one_ending (source_of kind) n (outcome.Whole is.0) (outcome.Stopped how) is.1 stopped
 
 -- all endings without one have one status
-one_stop : (a : Alone) (by other : Ending) → AloneStops a by → AloneStops a other → status_of by ≡ status_of other
-one_stop (made n) by other p q = absurd p
-one_stop (benched kind n) by other (inl (fault, refused, is)) (inl (fault_2, refused_2, is_2)) = ap status_of is ∙ sym (ap status_of is_2)
-one_stop (benched kind n) by other (inl (fault, refused, is)) (inr (how, stopped, is_2)) =
+one_stop : (kind : Workload) (n : ℕ) (by other : Ending) → BenchStops kind n by → BenchStops kind n other → status_of by ≡ status_of other
+one_stop kind n by other (inl (fault, refused, is)) (inl (fault_2, refused_2, is_2)) = ap status_of is ∙ sym (ap status_of is_2)
+one_stop kind n by other (inl (fault, refused, is)) (inr (how, stopped, is_2)) =
     absurd (refused_benches_none (source_of kind) fault n (outcome.Stopped how) refused stopped)
-one_stop (benched kind n) by other (inr (how, stopped, is)) (inl (fault, refused, is_2)) =
+one_stop kind n by other (inr (how, stopped, is)) (inl (fault, refused, is_2)) =
     absurd (refused_benches_none (source_of kind) fault n (outcome.Stopped how) refused stopped)
-one_stop (benched kind n) by other (inr (how, stopped, is)) (inr (how_2, stopped_2, is_2)) =
+one_stop kind n by other (inr (how, stopped, is)) (inr (how_2, stopped_2, is_2)) =
     ap status_of is ∙ kind_status how how_2 (one_ending (source_of kind) n (outcome.Stopped how) (outcome.Stopped how_2) stopped stopped_2) ∙ sym (ap status_of is_2)
 
-pub one_alone : (x : Option Alone) (a b : Alone) → x ≡ Some a → x ≡ Some b → a ≡ b
-one_alone x a b p q = let e : Some a ≡ Some b = sym p ∙ q in cc
+-- a bench ends with its tally, or without one
+bench_cases : (kind : Workload) (n : ℕ) (by : Ending) → BenchCause kind n by → ((by ≡ ending.Done) × ((text : List ℕ) × IsTallyText kind n text)) ⊎ BenchStops kind n by
+bench_cases kind n ending.Done a = inl (refl, a)
+bench_cases kind n ending.Words a = inr a
+bench_cases kind n (ending.Spec fault) a = inr a
+bench_cases kind n (ending.Trace fault) a = inr a
+bench_cases kind n (ending.Fault t k p) a = inr a
+bench_cases kind n (ending.Limit m t) a = inr a
 
-module _ (words : List (List ℕ)) (part : List Did) where
-  -- words that are not accepted ask for nothing
-  pub none_asked : requested words ≡ None → asked_of words ≡ None
-  none_asked none = ap (option_and_then with_spec) none
+bench_causes : (kind : Workload) (n : ℕ) (by other : Ending) → BenchCause kind n by → BenchCause kind n other → status_of by ≡ status_of other
+bench_causes kind n by other a b = elim (bench_cases kind n by a) [
+  | inl first ↦ elim (bench_cases kind n other b) [
+    | inl second ↦ ap status_of first.0 ∙ sym (ap status_of second.0)
+    | inr stops ↦ absurd (tally_or_stops kind n first.1.0 other first.1.1 stops)
+  ]
+  | inr stops ↦ elim (bench_cases kind n other b) [
+    | inl second ↦ absurd (tally_or_stops kind n second.1.0 by second.1.1 stops)
+    | inr too ↦ one_stop kind n by other stops too
+  ]
+]
 
-  pub none_alone : requested words ≡ None → alone_of words ≡ None
-  none_alone none = ap (option_and_then without_spec) none
+module _ (x : Seen) where
+  -- a text of a specification is done, or the specification is refused
+  write_causes : (by other : Ending) → WriteCause x by → WriteCause x other → status_of by ≡ status_of other
+  write_causes ending.Done ending.Done a b = refl
+  write_causes ending.Done (ending.Spec fault) a b = absurd (refused_compiles_none (x.taken Spec) fault a.items a.system b a.compiled)
+  write_causes ending.Done ending.Words a b = absurd b
+  write_causes ending.Done (ending.Trace fault) a b = absurd b
+  write_causes ending.Done (ending.Fault t k p) a b = absurd b
+  write_causes ending.Done (ending.Limit n t) a b = absurd b
+  write_causes (ending.Spec fault) ending.Done a b = absurd (refused_compiles_none (x.taken Spec) fault b.items b.system a b.compiled)
+  write_causes (ending.Spec fault) (ending.Spec other) a b = refl
+  write_causes (ending.Spec fault) ending.Words a b = absurd b
+  write_causes (ending.Spec fault) (ending.Trace f) a b = absurd b
+  write_causes (ending.Spec fault) (ending.Fault t k p) a b = absurd b
+  write_causes (ending.Spec fault) (ending.Limit n t) a b = absurd b
+  write_causes ending.Words other a b = absurd a
+  write_causes (ending.Trace fault) other a b = absurd a
+  write_causes (ending.Fault t k p) other a b = absurd a
+  write_causes (ending.Limit n t) other a b = absurd a
 
-  run_or_alone : (by : Ending) → EndsRun words by part → EndsAlone words part → ⊥
-  run_or_alone by a b = apart (requested words) (a.name, monitor a.trace a.options a.statistics) b.wrote.what a.asked b.wrote.asked
+  module _ (r : Run) where
+    -- the cause in the trace
+    abbrev pub OfWatch : Ending → Type 0
+    OfWatch by = OfSource x (λ items s. OfEnding by (λ how. EndsAsMeant items s (options_of r) (x.taken Trace) (x.ended Trace) how))
 
-  run_or_stops : (by other : Ending) → EndsRun words by part → AloneEnds words other part → ⊥
-  run_or_stops by other a b = apart (requested words) (a.name, monitor a.trace a.options a.statistics) b.what a.asked b.asked
+    -- of the same system
+    pub meant_by : (P : List tree.Item → System → Type 0) (other : Ending) (a : OfSource x P) (b : OfWatch other)
+        → EndsAsMeant a.items a.system (options_of r) (x.taken Trace) (x.ended Trace) b.holds.how
+    meant_by P other a b =
+        let how = b.holds.how in
+        let one = one_is_compiled (x.taken Spec) b.items a.items b.system a.system b.compiled a.compiled in
+        subst (λ (l : List tree.Item). EndsAsMeant l a.system (options_of r) (x.taken Trace) (x.ended Trace) how) one.0
+        (subst (λ (s : System). EndsAsMeant b.items s (options_of r) (x.taken Trace) (x.ended Trace) how) one.1 b.holds.holds)
 
-  print_or_alone : EndsPrint words part → EndsAlone words part → ⊥
-  print_or_alone a b = apart (requested words) (a.name, print a.form) b.wrote.what a.asked b.wrote.asked
+    one_run : (by other : Ending) → OfWatch by → OfWatch other → status_of by ≡ status_of other
+    one_run by other a b =
+        ap status_of a.holds.by_is
+        ∙ same_status a.items a.system (options_of r) (x.taken Trace) (x.ended Trace) a.holds.how b.holds.how a.holds.holds (meant_by _ other a b)
+        ∙ sym (ap status_of b.holds.by_is)
 
-  print_or_stops : (other : Ending) → EndsPrint words part → AloneEnds words other part → ⊥
-  print_or_stops other a b = apart (requested words) (a.name, print a.form) b.what a.asked b.asked
+    -- a run ends since its specification is refused, or by a cause in the trace
+    pub run_cases : (by : Ending) → RunCause r x by → ((fault : SpecFault) × (by ≡ ending.Spec fault) × RunCause r x (ending.Spec fault)) ⊎ OfWatch by
+    run_cases (ending.Spec fault) a = inl (fault, refl, a)
+    run_cases ending.Done a = inr a
+    run_cases ending.Words a = inr a
+    run_cases (ending.Trace f) a = inr a
+    run_cases (ending.Fault t k p) a = inr a
+    run_cases (ending.Limit n t) a = inr a
 
-  spec_or_alone : (fault : SpecFault) → SpecRefused words fault part → EndsAlone words part → ⊥
-  spec_or_alone fault a b = apart (requested words) (a.name, a.task) b.wrote.what a.asked b.wrote.asked
+    run_causes : (by other : Ending) → RunCause r x by → RunCause r x other → status_of by ≡ status_of other
+    run_causes by other a b = elim (run_cases by a) [
+      | inl (fault, is, refused) ↦ elim (run_cases other b) [
+        | inl (fault_2, is_2, refused_2) ↦ ap status_of is ∙ sym (ap status_of is_2)
+        | inr watch ↦ absurd (refused_compiles_none (x.taken Spec) fault watch.items watch.system refused watch.compiled)
+      ]
+      | inr watch ↦ elim (run_cases other b) [
+        | inl (fault, is, refused) ↦ absurd (refused_compiles_none (x.taken Spec) fault watch.items watch.system refused watch.compiled)
+        | inr too ↦ one_run by other watch too
+      ]
+    ]
 
-  spec_or_stops : (fault : SpecFault) (other : Ending) → SpecRefused words fault part → AloneEnds words other part → ⊥
-  spec_or_stops fault other a b = apart (requested words) (a.name, a.task) b.what a.asked b.asked
+    -- where a run finishes, this is its cause
+    watch_cause : (by : Ending) → OfSource x (λ items s. OfEnding by (λ how. WatchEndsAsMeant items s (options_of r) how x)) → OfWatch by
+    watch_cause by f = record {
+      items = f.items;
+      system = f.system;
+      compiled = f.compiled;
+      holds = record { how = f.holds.how; by_is = f.holds.by_is; holds = f.holds.holds.ends };
+    }
 
-  alone_or_stops : (other : Ending) → EndsAlone words part → AloneEnds words other part → ⊥
-  alone_or_stops other a b =
-      let same : b.what ≡ a.wrote.what = one_alone (alone_of words) b.what a.wrote.what b.asked a.wrote.asked in
-      text_or_stops a.wrote.what a.wrote.text other a.wrote.is (subst (λ (x : Alone). AloneStops x other) same b.stops)
+  -- two causes of one command have one status
+  pub causes : (c : Option Command) (by other : Ending) → Cause c x by → Cause c x other → status_of by ≡ status_of other
+  causes None by other a b = ap status_of a ∙ sym (ap status_of b)
+  causes (Some (command.Write spec f)) by other a b = write_causes by other a b
+  causes (Some (command.Run r)) by other a b = run_causes r by other a b
+  causes (Some (command.Generate n)) by other a b = ap status_of a ∙ sym (ap status_of b)
+  causes (Some (command.Bench kind n)) by other a b = bench_causes kind n by other a b
 
-  -- two endings of the same words without a text
-  both_stop : (by other : Ending) → AloneEnds words by part → AloneEnds words other part → status_of by ≡ status_of other
-  both_stop by other a b =
-      let same : b.what ≡ a.what = one_alone (alone_of words) b.what a.what b.asked a.asked in
-      one_stop a.what by other a.stops (subst (λ (x : Alone). AloneStops x other) same b.stops)
+  -- What finishes has its cause.
+  done_cause : (c : Option Command) → Finishes c x ending.Done → Cause c x ending.Done
+  done_cause None f = absurd f
+  done_cause (Some (command.Write spec form)) f = let has = f.1.is in record { items = has.items; system = has.system; compiled = has.compiles; holds = tt }
+  done_cause (Some (command.Run r)) f = watch_cause r ending.Done f
+  done_cause (Some (command.Generate n)) f = refl
+  done_cause (Some (command.Bench kind n)) f = (x.given Out, f)
 
-  -- a run of the same words and of the same system
-  pub meant_by : (P : List tree.Item → System → Options → Type 0) (other : Ending) (a : OfRun words part P) (b : EndsRun words other part) → EndsAsMeant a.items a.system a.options (taken Trace part) (ended Trace part) b.holds.how
-  meant_by P other a b =
-      let how = b.holds.how in
-      let runs : b.options ≡ a.options = ap (options_or a.options) (sym b.asked ∙ a.asked) in
-      let one = one_is_compiled (taken Spec part) b.items a.items b.system a.system b.compiled a.compiled in
-      subst (λ (l : List tree.Item). EndsAsMeant l a.system a.options (taken Trace part) (ended Trace part) how) one.0
-      (subst (λ (s : System). EndsAsMeant b.items s a.options (taken Trace part) (ended Trace part) how) one.1
-      (subst (λ (p : Options). EndsAsMeant b.items b.system p (taken Trace part) (ended Trace part) how) runs b.holds.holds.ends))
+  trace_cause : (c : Option Command) (fault : TraceFault) → Finishes c x (ending.Trace fault) → Cause c x (ending.Trace fault)
+  trace_cause None fault f = absurd f
+  trace_cause (Some (command.Write spec form)) fault f = absurd (let e : ending.Trace fault ≡ ending.Done = f.0 in cc)
+  trace_cause (Some (command.Run r)) fault f = watch_cause r (ending.Trace fault) f
+  trace_cause (Some (command.Generate n)) fault f = f.0
+  trace_cause (Some (command.Bench kind n)) fault f = f.0
 
-  -- two of these
-  one_run : (by other : Ending) → EndsRun words by part → EndsRun words other part → status_of by ≡ status_of other
-  one_run by other a b =
-      ap status_of a.holds.by_is
-      ∙ same_status a.items a.system a.options (taken Trace part) (ended Trace part) a.holds.how b.holds.how a.holds.holds.ends (meant_by _ other a b)
-      ∙ sym (ap status_of b.holds.by_is)
+  fault_cause : (c : Option Command) (t : ℕ) (k : FaultKind) (p : Place) → Finishes c x (ending.Fault t k p) → Cause c x (ending.Fault t k p)
+  fault_cause None t k p f = absurd f
+  fault_cause (Some (command.Write spec form)) t k p f = absurd (let e : ending.Fault t k p ≡ ending.Done = f.0 in cc)
+  fault_cause (Some (command.Run r)) t k p f = watch_cause r (ending.Fault t k p) f
+  fault_cause (Some (command.Generate n)) t k p f = f.0
+  fault_cause (Some (command.Bench kind n)) t k p f = f.0
 
-  spec_or_run : (fault : SpecFault) (by : Ending) → SpecRefused words fault part → EndsRun words by part → ⊥
-  spec_or_run fault by refused ends = refused_compiles_none (taken Spec part) fault ends.items ends.system refused.refused ends.compiled
+  limit_cause : (c : Option Command) (n t : ℕ) → Finishes c x (ending.Limit n t) → Cause c x (ending.Limit n t)
+  limit_cause None n t f = absurd f
+  limit_cause (Some (command.Write spec form)) n t f = absurd (let e : ending.Limit n t ≡ ending.Done = f.0 in cc)
+  limit_cause (Some (command.Run r)) n t f = watch_cause r (ending.Limit n t) f
+  limit_cause (Some (command.Generate m)) n t f = f.0
+  limit_cause (Some (command.Bench kind m)) n t f = f.0
 
-  spec_or_print : (fault : SpecFault) → SpecRefused words fault part → EndsPrint words part → ⊥
-  spec_or_print fault refused prints = refused_compiles_none (taken Spec part) fault prints.is.items prints.is.system refused.refused prints.is.compiles
+  -- so has what stands
+  pub stands_cause : (c : Option Command) (by : Ending) → Stands c by x → Cause c x by
+  stands_cause c ending.Done s = done_cause c s.holds
+  stands_cause c ending.Words s = s.holds
+  stands_cause c (ending.Spec fault) s = s.holds
+  stands_cause c (ending.Trace fault) s = trace_cause c fault s.holds
+  stands_cause c (ending.Fault t k p) s = fault_cause c t k p s.holds
+  stands_cause c (ending.Limit n t) s = limit_cause c n t s.holds
 
-  run_or_print : (by : Ending) → EndsRun words by part → EndsPrint words part → ⊥
-  run_or_print by ends prints = true≢false (ap asks_print (sym prints.asked ∙ ends.asked))
-
-  from_run : (by other : Ending) → EndsRun words by part → RunEnds words other part → status_of by ≡ status_of other
-  from_run by ending.Words a b = absurd (nothing_some _ (a.name, monitor a.trace a.options a.statistics) (none_asked b.refused) a.asked)
-  from_run by (ending.Spec place) a (inl b) = absurd (spec_or_run place by b a)
-  from_run by (ending.Spec place) a (inr b) = absurd (run_or_stops by (ending.Spec place) a b)
-  from_run by ending.Done a (inl b) = one_run by ending.Done a b
-  from_run by ending.Done a (inr (inl b)) = absurd (run_or_print by a b)
-  from_run by ending.Done a (inr (inr b)) = absurd (run_or_alone by a b)
-  from_run by (ending.Trace f) a (inl b) = one_run by (ending.Trace f) a b
-  from_run by (ending.Trace f) a (inr b) = absurd (run_or_stops by (ending.Trace f) a b)
-  from_run by (ending.Fault t kind place) a (inl b) = one_run by (ending.Fault t kind place) a b
-  from_run by (ending.Fault t kind place) a (inr b) = absurd (run_or_stops by (ending.Fault t kind place) a b)
-  from_run by (ending.Limit n t) a (inl b) = one_run by (ending.Limit n t) a b
-  from_run by (ending.Limit n t) a (inr b) = absurd (run_or_stops by (ending.Limit n t) a b)
-
-  from_print : (other : Ending) → EndsPrint words part → RunEnds words other part → 0 ≡ status_of other
-  from_print ending.Words a b = absurd (nothing_some _ (a.name, print a.form) (none_asked b.refused) a.asked)
-  from_print (ending.Spec place) a (inl b) = absurd (spec_or_print place b a)
-  from_print (ending.Spec place) a (inr b) = absurd (print_or_stops (ending.Spec place) a b)
-  from_print ending.Done a b = refl
-  from_print (ending.Trace f) a (inl b) = absurd (run_or_print (ending.Trace f) b a)
-  from_print (ending.Trace f) a (inr b) = absurd (print_or_stops (ending.Trace f) a b)
-  from_print (ending.Fault t kind place) a (inl b) = absurd (run_or_print (ending.Fault t kind place) b a)
-  from_print (ending.Fault t kind place) a (inr b) = absurd (print_or_stops (ending.Fault t kind place) a b)
-  from_print (ending.Limit n t) a (inl b) = absurd (run_or_print (ending.Limit n t) b a)
-  from_print (ending.Limit n t) a (inr b) = absurd (print_or_stops (ending.Limit n t) a b)
-
-  from_alone : (other : Ending) → EndsAlone words part → RunEnds words other part → 0 ≡ status_of other
-  from_alone ending.Words a b = absurd (nothing_some _ a.wrote.what (none_alone b.refused) a.wrote.asked)
-  from_alone (ending.Spec place) a (inl b) = absurd (spec_or_alone place b a)
-  from_alone (ending.Spec place) a (inr b) = absurd (alone_or_stops (ending.Spec place) a b)
-  from_alone ending.Done a b = refl
-  from_alone (ending.Trace f) a (inl b) = absurd (run_or_alone (ending.Trace f) b a)
-  from_alone (ending.Trace f) a (inr b) = absurd (alone_or_stops (ending.Trace f) a b)
-  from_alone (ending.Fault t kind place) a (inl b) = absurd (run_or_alone (ending.Fault t kind place) b a)
-  from_alone (ending.Fault t kind place) a (inr b) = absurd (alone_or_stops (ending.Fault t kind place) a b)
-  from_alone (ending.Limit n t) a (inl b) = absurd (run_or_alone (ending.Limit n t) b a)
-  from_alone (ending.Limit n t) a (inr b) = absurd (alone_or_stops (ending.Limit n t) a b)
-
-  from_stops : (by other : Ending) → AloneEnds words by part → RunEnds words other part → status_of by ≡ status_of other
-  from_stops by ending.Words a b = absurd (nothing_some _ a.what (none_alone b.refused) a.asked)
-  from_stops by (ending.Spec place) a (inl b) = absurd (spec_or_stops place by b a)
-  from_stops by (ending.Spec place) a (inr b) = both_stop by (ending.Spec place) a b
-  from_stops by ending.Done a (inl b) = absurd (run_or_stops ending.Done by b a)
-  from_stops by ending.Done a (inr (inl b)) = absurd (print_or_stops by b a)
-  from_stops by ending.Done a (inr (inr b)) = absurd (alone_or_stops by b a)
-  from_stops by (ending.Trace f) a (inl b) = absurd (run_or_stops (ending.Trace f) by b a)
-  from_stops by (ending.Trace f) a (inr b) = both_stop by (ending.Trace f) a b
-  from_stops by (ending.Fault t kind place) a (inl b) = absurd (run_or_stops (ending.Fault t kind place) by b a)
-  from_stops by (ending.Fault t kind place) a (inr b) = both_stop by (ending.Fault t kind place) a b
-  from_stops by (ending.Limit n t) a (inl b) = absurd (run_or_stops (ending.Limit n t) by b a)
-  from_stops by (ending.Limit n t) a (inr b) = both_stop by (ending.Limit n t) a b
-
-  from_words : (other : Ending) → asked_of words ≡ None → alone_of words ≡ None → RunEnds words other part → 2 ≡ status_of other
-  from_words ending.Words none neither b = refl
-  from_words (ending.Spec place) none neither (inl b) = absurd (nothing_some _ (b.name, b.task) none b.asked)
-  from_words (ending.Spec place) none neither (inr b) = absurd (nothing_some _ b.what neither b.asked)
-  from_words ending.Done none neither (inl b) = absurd (nothing_some _ (b.name, monitor b.trace b.options b.statistics) none b.asked)
-  from_words ending.Done none neither (inr (inl b)) = absurd (nothing_some _ (b.name, print b.form) none b.asked)
-  from_words ending.Done none neither (inr (inr b)) = absurd (nothing_some _ b.wrote.what neither b.wrote.asked)
-  from_words (ending.Trace f) none neither (inl b) = absurd (nothing_some _ (b.name, monitor b.trace b.options b.statistics) none b.asked)
-  from_words (ending.Trace f) none neither (inr b) = absurd (nothing_some _ b.what neither b.asked)
-  from_words (ending.Fault t kind place) none neither (inl b) = absurd (nothing_some _ (b.name, monitor b.trace b.options b.statistics) none b.asked)
-  from_words (ending.Fault t kind place) none neither (inr b) = absurd (nothing_some _ b.what neither b.asked)
-  from_words (ending.Limit n t) none neither (inl b) = absurd (nothing_some _ (b.name, monitor b.trace b.options b.statistics) none b.asked)
-  from_words (ending.Limit n t) none neither (inr b) = absurd (nothing_some _ b.what neither b.asked)
-
-  from_spec : (fault : SpecFault) (other : Ending) → SpecRefused words fault part → RunEnds words other part → 3 ≡ status_of other
-  from_spec fault ending.Words a b = absurd (nothing_some _ (a.name, a.task) (none_asked b.refused) a.asked)
-  from_spec fault (ending.Spec other) a b = refl
-  from_spec fault ending.Done a (inl b) = absurd (spec_or_run fault ending.Done a b)
-  from_spec fault ending.Done a (inr (inl b)) = absurd (spec_or_print fault a b)
-  from_spec fault ending.Done a (inr (inr b)) = absurd (spec_or_alone fault a b)
-  from_spec fault (ending.Trace f) a (inl b) = absurd (spec_or_run fault (ending.Trace f) a b)
-  from_spec fault (ending.Trace f) a (inr b) = absurd (spec_or_stops fault (ending.Trace f) a b)
-  from_spec fault (ending.Fault t kind at) a (inl b) = absurd (spec_or_run fault (ending.Fault t kind at) a b)
-  from_spec fault (ending.Fault t kind at) a (inr b) = absurd (spec_or_stops fault (ending.Fault t kind at) a b)
-  from_spec fault (ending.Limit n t) a (inl b) = absurd (spec_or_run fault (ending.Limit n t) a b)
-  from_spec fault (ending.Limit n t) a (inr b) = absurd (spec_or_stops fault (ending.Limit n t) a b)
-
-  same_ends : (by other : Ending) → RunEnds words by part → RunEnds words other part → status_of by ≡ status_of other
-  same_ends ending.Words other a b = from_words other (none_asked a.refused) (none_alone a.refused) b
-  same_ends (ending.Spec fault) other (inl a) b = from_spec fault other a b
-  same_ends (ending.Spec fault) other (inr a) b = from_stops (ending.Spec fault) other a b
-  same_ends ending.Done other (inl a) b = from_run ending.Done other a b
-  same_ends ending.Done other (inr (inl a)) b = from_print other a b
-  same_ends ending.Done other (inr (inr a)) b = from_alone other a b
-  same_ends (ending.Trace f) other (inl a) b = from_run (ending.Trace f) other a b
-  same_ends (ending.Trace f) other (inr a) b = from_stops (ending.Trace f) other a b
-  same_ends (ending.Fault t kind place) other (inl a) b = from_run (ending.Fault t kind place) other a b
-  same_ends (ending.Fault t kind place) other (inr a) b = from_stops (ending.Fault t kind place) other a b
-  same_ends (ending.Limit n t) other (inl a) b = from_run (ending.Limit n t) other a b
-  same_ends (ending.Limit n t) other (inr a) b = from_stops (ending.Limit n t) other a b
-
-  pub exact : (before now : Failures) (status : ℕ) → Concludes words before now status part → IsExact words status part
-  exact before now status c by has = by_outcome c.outcome
-    where
-      by_outcome : Outcome words before now status part → (status ≡ status_of by) ⊎ (status ≡ 5) ⊎ (status ≡ 6)
-      by_outcome (told other is ends) = inl (is ∙ same_ends other by ends.ends has)
-      by_outcome (outside five some) = inr (inl five)
-      by_outcome (memory six line) = inr (inr six)
+-- the status is that of the ending that has its cause
+pub exact : (c : Option Command) (part : List Did) (before now : Failures) (status : ℕ) → Concludes c before now status part → IsExact c status (seen part)
+exact c part before now status says by has = by_outcome says.outcome
+  where
+    by_outcome : Outcome c before now status part → (status ≡ status_of by) ⊎ (status ≡ 5) ⊎ (status ≡ 6)
+    by_outcome (told other is ends) = inl (is ∙ causes (seen part) c other by (stands_cause (seen part) c other ends.stands) has)
+    by_outcome (outside five some) = inr (inl five)
+    by_outcome (memory six line) = inr (inr six)

@@ -1,9 +1,14 @@
 -- What the journal of a run shows, from its parts.
-use Rattle.std.proofs.Common.{◌≡◌, ◌⊎◌, inl, inr, ℕ, ◌<◌, ◌≤◌, Bool, true, false, List, [], ◌∷◌, ◌++◌, length, refl, sym, ◌∙◌, ap, subst, Some}
+use Rattle.std.proofs.Common.{◌≡◌, ◌⊎◌, inl, inr, ℕ, ◌<◌, ◌≤◌, Bool, true, false, List, [], ◌∷◌, ◌++◌, length, refl, sym, ◌∙◌, ap, subst, Option, Some, None}
 use Rattle.std.proofs.lemmas.List.{append-nil}
 use Rattle.alias_rules.specs.Fine.{IsTakenPlan}
+use Rattle.command_words.specs.declared.command.Command.{Command}
+use Rattle.command_words.specs.declared.command.Command.TheVariants as command
+use Rattle.command_words.specs.declared.command.Form.{Form}
+use Rattle.command_words.specs.declared.command.Run.{Run}
 use Rattle.flat_core.specs.System.{System}
 use Rattle.monitor_run.specs.inner.State as engine
+use Rattle.sample_trace.specs.Trace.{trace_text}
 use Rattle.trace_monitor.specs.Counted.{HasCounted}
 use Rattle.tsl_world.specs.Begins.{Begins}
 use Rattle.tsl_world.specs.declared.outside.Did.{Did}
@@ -13,6 +18,7 @@ use Rattle.tsl_world.specs.declared.outside.Slot.TheVariants.{Spec, Trace}
 use Rattle.tsl_world.specs.declared.outside.Channel.{Channel}
 use Rattle.tsl_world.specs.declared.outside.Channel.TheVariants.{Out, Err}
 use Rattle.tsl_world.specs.Journal.{given, taken, ended, openings, creations, AtAll, AtReads, StopsAtEnd, StopsAtFailure, IsAny, IsDone, IsGift, IsOpening, IsRead, IsNoRead, IsNoGift, IsTransfer, IsWithin, Each}
+use Rattle.tsl_world.specs.Seen.{Seen, seen}
 use Rattle.tsl_world.proofs.Journals.{openings-append, creations-append, Each-append, each_more}
 use Rattle.tsl_world.proofs.Untouched.{gifts_read_none, gifts_transfer, gifts_within, gifts_elsewhere, not_gift, taken_before, taken_after, ended_before, ended_after, given_after, given_none, openings_none, creations_none, transfer_opens_none}
 use Rattle.tsl_world.proofs.Places.{at_none, at_not, at_no_read, at_join, at_more, at_after, at_weaker, at_fewer, at_each, at_each_join, stops_one}
@@ -23,18 +29,17 @@ use Rattle.trace_monitor.specs.declared.options.Options.{Options}
 use Rattle.trace_monitor.specs.Due.{IsDue}
 use Rattle.trace_monitor.specs.Ending.{GoesOn}
 use Rattle.trace_monitor.specs.Next.{EndsBy}
-use Rattle.tessla_cli.specs.Conduct.{HasWhole, IsAllWhole, MakesNothing, ReadsSpecFirst, ReadsTraceLast, WritesLast, StopsAtLimit, ReadsPieces, OpensAsAsked, OfPrint, GoesOnAtReads, IsPartlyDue}
-use Rattle.tessla_cli.specs.Headline.{OfItems, OfRun, IsDueAtReads}
+use Rattle.tessla_cli.specs.Asked.{for_asked, options_of, program_files, trace_files}
+use Rattle.tessla_cli.specs.Stages.{AreWhole, HasWhole, at_work, opened_at}
+use Rattle.tessla_cli.specs.Conduct.{IsAllWhole, MakesNothing, ReadsSpecFirst, ReadsTraceLast, WritesLast, StopsAtLimit, ReadsPieces, OpensAsAsked, OfText, GoesOnAtRead, GoesOnAtReads, BeginsOut, IsPartlyDue}
+use Rattle.tessla_cli.specs.Headline.{OfItems, OfSource, IsDueAtRead, IsDueAtReads}
 use Rattle.trace_run.specs.Meant.{IsDueAsMeant, GoesOnAsMeant, BeginsAsMeant, WatchEndsAsMeant}
-use Rattle.trace_run.specs.Effects.{IsTraceWork, MayRead, BeginsDue, Watched, WatchEnds, idle, no_trace, watched}
+use Rattle.trace_run.specs.Effects.{IsTraceWork, MayRead, BeginsDue, RunsSystem, Watched, WatchEnds, idle, no_trace, watched}
 use Rattle.trace_run.specs.Statistics.{AreStatistics, counted_text}
-use Rattle.tessla_cli.specs.inner.RunPhases.{IsTake, MayReadSpec, ReadsSpec, GivesSource, Prints, uncompiled, compiled, prints, RunsSpec, unopened, no_spec, reading, whole, RunsWords, unasked, asked, samples, PrintsText, unmade, writes}
-use Rattle.tessla_cli.specs.Alone.{IsAloneText}
+use Rattle.tessla_cli.specs.inner.RunPhases.{IsTake, MayReadSpec, ReadsSpec, GivesSource, Prints, uncompiled, compiled, Monitors, RunsSource, ReadsName, unopened, no_spec, reading, RunsSpec, unread, whole, Does, DoesAsked, PrintsText, RunsAlone, unmade, writes}
+use Rattle.tessla_cli.specs.Alone.{IsTallyText}
 use Rattle.tessla_cli.specs.Printed.{IsTextOf}
-use Rattle.tessla_cli.specs.Tasks.{Alone, Task, alone_of, print, monitor, asked_of, names_of, requested, traces_of}
-use Rattle.tessla_cli.specs.declared.task.Form.{Form}
 use Rattle.trace_run.proofs.Counted.{statistics_meant}
-use Rattle.tessla_cli.proofs.Exact.{apart}
 use Rattle.trace_run.proofs.Meaning.{due_meant, goes_on_meant, begins_meant, watch_ends_meant}
 use Rattle.trace_reader.specs.declared.limits.TheConstants.{MOST_PIECE_BYTES}
 use Rattle.spec_lexer.specs.declared.limits.TheConstants.{MOST_SOURCE_BYTES}
@@ -67,72 +72,69 @@ pub no_opening_in : (slot : Slot) (part : List Did) → Each IsTransfer part →
 no_opening_in slot part = each_more IsTransfer (λ did. IsOpening slot did → ⊥) (transfer_opens_none slot) part
 
 -- The specification stays whole where nothing of it is read.
-pub whole_more : (part more : List Did) → Each (IsNoRead Spec) more → HasWhole part → HasWhole (part ++ more)
+pub whole_more : (part more : List Did) → Each (IsNoRead Spec) more → HasWhole Spec (seen part) → HasWhole Spec (seen (part ++ more))
 whole_more part more none (inl is) = inl (ended_before Spec part more none ∙ is)
 whole_more part more none (inr beyond) = inr (subst (λ (l : List ℕ). MOST_SOURCE_BYTES < length l) (sym (taken_before Spec part more none)) beyond)
 
 -- What every run shows, whatever ends it.
-pub record Shows (words : List (List ℕ)) (part : List Did) : Type 0 where
-  pub opens : OpensAsAsked words part
+pub record Shows (c : Option Command) (part : List Did) : Type 0 where
+  pub opens : OpensAsAsked c part
   pub makes : MakesNothing part
   pub spec_first : ReadsSpecFirst part
   pub trace_last : ReadsTraceLast part
-  pub writes_last : WritesLast words part
+  pub writes_last : WritesLast c part
   pub spec_ends : StopsAtEnd Spec part
   pub trace_ends : StopsAtEnd Trace part
   pub limit : StopsAtLimit part
   pub pieces : ReadsPieces part
   pub stops : StopsAtFailure part
-  pub due : IsDueAtReads words part
-  pub goes_on : GoesOnAtReads words part
-  pub partly : IsPartlyDue words part
+  pub due : IsDueAtReads c part
+  pub goes_on : GoesOnAtReads c part
+  pub partly : IsPartlyDue c (seen part)
   pub silent : Each (IsNoGift Err) part
 
 -- a part with no read and no write, in which no opening of the trace stands
-shows_few : (words : List (List ℕ)) (part : List Did) → OpensAsAsked words part → MakesNothing part → Each (λ did. IsOpening Trace did → ⊥) part
-    → Each (IsNoRead Spec) part → Each (IsNoRead Trace) part → ((to : Channel) → Each (IsNoGift to) part) → ReadsPieces part → StopsAtFailure part → Shows words part
-shows_few words part opens makes no_opening spec trace gifts pieces stops = record {
+shows_few : (c : Option Command) (part : List Did) → OpensAsAsked c part → MakesNothing part → Each (λ did. IsOpening Trace did → ⊥) part
+    → Each (IsNoRead Spec) part → Each (IsNoRead Trace) part → ((to : Channel) → Each (IsNoGift to) part) → ReadsPieces part → StopsAtFailure part → Shows c part
+shows_few c part opens makes no_opening spec trace gifts pieces stops = record {
   opens = opens;
   makes = makes;
-  spec_first = at_not (IsOpening Trace) HasWhole part no_opening;
-  trace_last = at_no_read Trace HasWhole part trace;
-  writes_last = λ to other. at_not (IsGift to) (IsAllWhole words) part (each_more (IsNoGift to) (λ did. IsGift to did → ⊥) (not_gift to) part (gifts to));
+  spec_first = at_not (IsOpening Trace) (λ before. HasWhole Spec (seen before)) part no_opening;
+  trace_last = at_no_read Trace (λ before. HasWhole Spec (seen before)) part trace;
+  writes_last = λ to other. at_not (IsGift to) (λ before. IsAllWhole c (seen before)) part (each_more (IsNoGift to) (λ did. IsGift to did → ⊥) (not_gift to) part (gifts to));
   spec_ends = at_no_read Spec _ part spec;
   trace_ends = at_no_read Trace _ part trace;
   limit = at_no_read Spec _ part spec;
   pieces = pieces;
   stops = stops;
-  due = at_no_read Trace _ part trace;
-  goes_on = at_no_read Trace _ part trace;
+  due = at_no_read Trace (λ before. IsDueAtRead c (seen before)) part trace;
+  goes_on = at_no_read Trace (λ before. GoesOnAtRead c (seen before)) part trace;
   partly = inl (given_none Out part (gifts Out));
   silent = gifts Err;
 }
 
-shows_none : (words : List (List ℕ)) → Shows words []
-shows_none words = shows_few words [] (inl refl) refl tt tt tt (λ to. tt) tt (at_none IsAny (Each IsDone))
+shows_none : (c : Option Command) → Shows c []
+shows_none c = shows_few c [] (record { rest = for_asked (opened_at at_work) c; is = refl }) refl tt tt tt (λ to. tt) tt (at_none IsAny (Each IsDone))
 
--- What stands after the reads of the specification, for a task.
-record Tail (task : Task) (rest : List Did) : Type 0 where
-  opens : (openings rest ≡ []) ⊎ (openings rest ≡ traces_of task)
+-- What stands after the reads of the specification, for a command.
+record Tail (c : Command) (rest : List Did) : Type 0 where
+  opens : (openings rest ≡ []) ⊎ (openings rest ≡ trace_files c)
   makes : creations rest ≡ []
   spec : Each (IsNoRead Spec) rest
   ends : StopsAtEnd Trace rest
   pieces : ReadsPieces rest
   silent : Each (IsNoGift Err) rest
 
-module _ (words : List (List ℕ)) (name : List ℕ) (task : Task) (asked_is : asked_of words ≡ Some (name, task)) (reads : List Did) (r : ReadsSpec reads) where
+module _ (name : List ℕ) (reads : List Did) (r : ReadsSpec reads) where
   -- the specification, opened and read
   abbrev front : List Did
   front = Opened Spec name ∷ reads
 
-  front_no_trace : Each (IsNoRead Trace) front
+  pub front_no_trace : Each (IsNoRead Trace) front
   front_no_trace = (tt, each_take (IsNoRead Trace) Spec (λ bytes short. refl) refl reads r.only)
 
-  front_no_gift : (to : Channel) → Each (IsNoGift to) front
+  pub front_no_gift : (to : Channel) → Each (IsNoGift to) front
   front_no_gift to = (tt, each_take (IsNoGift to) Spec (λ bytes short. tt) tt reads r.only)
-
-  front_no_out : Each (IsNoGift Out) front
-  front_no_out = front_no_gift Out
 
   transfers : Each IsTransfer reads
   transfers = each_take IsTransfer Spec (λ bytes short. tt) tt reads r.only
@@ -144,15 +146,11 @@ module _ (words : List (List ℕ)) (name : List ℕ) (task : Task) (asked_is : a
   front_reads = at_after Spec MayReadSpec MayReadSpec (Opened Spec name ∷ []) reads (tt, tt) (λ less h. record { unended = h.unended; within = h.within }) r.reads
 
   -- the openings of the front and of what is after it
-  front_openings : (rest : List Did) → openings (front ++ rest) ≡ (Spec, name) ∷ openings rest
+  pub front_openings : (rest : List Did) → openings (front ++ rest) ≡ (Spec, name) ∷ openings rest
   front_openings rest = ap (λ (l : List (Slot × List ℕ)). (Spec, name) ∷ l) (openings-append reads rest ∙ ap (λ (l : List (Slot × List ℕ)). l ++ openings rest) (openings_none reads transfers))
 
   front_creations : (rest : List Did) → creations (front ++ rest) ≡ creations rest
   front_creations rest = creations-append reads rest ∙ ap (λ (l : List (Channel × List ℕ)). l ++ creations rest) (creations_none reads transfers)
-
-  opens_so : (opened : List (Slot × List ℕ)) → (opened ≡ []) ⊎ (opened ≡ traces_of task) → Begins ((Spec, name) ∷ opened) (names_of name task)
-  opens_so opened (inl is) = record { rest = traces_of task; is = ap (λ (l : List (Slot × List ℕ)). ((Spec, name) ∷ l) ++ traces_of task) (sym is) }
-  opens_so opened (inr is) = record { rest = []; is = ap (λ (l : List (Slot × List ℕ)). (Spec, name) ∷ l) (sym is) ∙ sym (append-nil ((Spec, name) ∷ opened)) }
 
   -- no opening of the trace stands in the front
   no_opening_front : Each (λ did. IsOpening Trace did → ⊥) front
@@ -162,148 +160,181 @@ module _ (words : List (List ℕ)) (name : List ℕ) (task : Task) (asked_is : a
   stops_front : StopsAtFailure front
   stops_front = at_each_join IsDone (Opened Spec name ∷ []) reads (tt, tt) r.stops
 
-  stops_after_front : (source : List ℕ) → GivesSource source reads → (rest : List Did) → StopsAtFailure rest → StopsAtFailure (front ++ rest)
-  stops_after_front source g rest stops = at_each_join IsDone front rest (tt, g.done) stops
+  module _ (source : List ℕ) (g : GivesSource source reads) where
+    pub stops_after_front : (rest : List Did) → StopsAtFailure rest → StopsAtFailure (front ++ rest)
+    stops_after_front rest stops = at_each_join IsDone front rest (tt, g.done) stops
 
-  -- the specification is whole where nothing more of it is read
-  whole_after : (source : List ℕ) → GivesSource source reads → (rest : List Did) → Each (IsNoRead Spec) rest → AtAll (λ less. HasWhole (front ++ less)) rest
-  whole_after source g rest none =
-      at_weaker IsAny (Each (IsNoRead Spec)) (λ less. HasWhole (front ++ less)) rest (λ less unread. whole_more front less unread g.whole)
-      (at_each (IsNoRead Spec) rest none)
+    -- the specification is whole where nothing more of it is read
+    pub whole_now : (rest : List Did) → Each (IsNoRead Spec) rest → HasWhole Spec (seen (front ++ rest))
+    whole_now rest none = whole_more front rest none g.whole
 
-  shows_tail : (rest : List Did) → Tail task rest → AtAll (λ less. HasWhole (front ++ less)) rest → StopsAtFailure (front ++ rest)
-      → AtReads Trace (λ less. OfItems words (front ++ less) (λ items o. IsDueAsMeant items o (taken Trace (front ++ less)) false (given Out (front ++ less)))) rest
-      → AtReads Trace (λ less. OfRun words (front ++ less) (λ items s o. GoesOnAsMeant items o (taken Trace (front ++ less)))) rest → IsPartlyDue words (front ++ rest) → Shows words (front ++ rest)
-  shows_tail rest tail is_whole stops due goes_on partly = record {
-    opens = inr (name, task, asked_is, subst (λ (l : List (Slot × List ℕ)). Begins l (names_of name task)) (sym (front_openings rest)) (opens_so (openings rest) tail.opens));
-    makes = front_creations rest ∙ tail.makes;
-    spec_first = at_join (IsOpening Trace) HasWhole front rest (at_not (IsOpening Trace) HasWhole front no_opening_front)
-        (at_fewer IsAny (IsOpening Trace) (λ less. HasWhole (front ++ less)) rest (λ did is. tt) is_whole);
-    trace_last = at_join (IsRead Trace) HasWhole front rest (at_no_read Trace HasWhole front front_no_trace)
-        (at_fewer IsAny (IsRead Trace) (λ less. HasWhole (front ++ less)) rest (λ did is. tt) is_whole);
-    writes_last = λ to other. at_join (IsGift to) (IsAllWhole words) front rest
-        (at_not (IsGift to) (IsAllWhole words) front (each_more (IsNoGift to) (λ did. IsGift to did → ⊥) (not_gift to) front (front_no_gift to)))
-        (at_weaker (IsGift to) (λ less. HasWhole (front ++ less)) (λ less. IsAllWhole words (front ++ less)) rest (λ less w n t is. w)
-        (at_fewer IsAny (IsGift to) (λ less. HasWhole (front ++ less)) rest (λ did is. tt) is_whole));
-    spec_ends = at_more Spec _ front rest (at_weaker (IsRead Spec) MayReadSpec _ front (λ before h. h.unended) front_reads) tail.spec;
-    trace_ends = at_after Trace (λ less. ended Trace less ≡ false) (λ before. ended Trace before ≡ false) front rest front_no_trace (λ less e. ended_after Trace front less front_no_trace ∙ e) tail.ends;
-    limit = at_more Spec _ front rest (at_weaker (IsRead Spec) MayReadSpec _ front (λ before h. h.within) front_reads) tail.spec;
-    pieces = Each-append (IsWithin MOST_PIECE_BYTES) front rest front_pieces tail.pieces;
-    stops = stops;
-    due = at_join (IsRead Trace) (λ before. OfItems words before (λ items o. IsDueAsMeant items o (taken Trace before) false (given Out before))) front rest (at_no_read Trace _ front front_no_trace) due;
-    goes_on = at_join (IsRead Trace) (λ before. OfRun words before (λ items s o. GoesOnAsMeant items o (taken Trace before))) front rest (at_no_read Trace _ front front_no_trace) goes_on;
-    partly = partly;
-    silent = Each-append (IsNoGift Err) front rest (front_no_gift Err) tail.silent;
-  }
+    pub whole_after : (rest : List Did) → Each (IsNoRead Spec) rest → AtAll (λ less. HasWhole Spec (seen (front ++ less))) rest
+    whole_after rest none =
+        at_weaker IsAny (Each (IsNoRead Spec)) (λ less. HasWhole Spec (seen (front ++ less))) rest whole_now
+        (at_each (IsNoRead Spec) rest none)
 
-  -- nothing after it
-  nothing_after : Tail task []
-  nothing_after = record {
-    opens = inl refl;
-    makes = refl;
-    spec = tt;
-    ends = at_none (IsRead Trace) _;
-    pieces = tt;
-    silent = tt;
-  }
+    -- what was taken of it
+    pub taken_now : (rest : List Did) → Each (IsNoRead Spec) rest → taken Spec (front ++ rest) ≡ source
+    taken_now rest none = taken_before Spec front rest none ∙ g.bytes_are
 
-  shows_front : Shows words (front ++ [])
-  shows_front =
-      shows_tail [] nothing_after (at_none IsAny _) (at_join IsAny (Each IsDone) front [] stops_front (at_none IsAny _)) (at_none (IsRead Trace) _)
-      (at_none (IsRead Trace) _) (inl (given_none Out (front ++ []) (Each-append (IsNoGift Out) front [] front_no_out tt)))
+  module _ (c : Command) (files_are : program_files c ≡ (Spec, name) ∷ []) where
+    opens_so : (opened : List (Slot × List ℕ)) → (opened ≡ []) ⊎ (opened ≡ trace_files c) → Begins ((Spec, name) ∷ opened) ((Spec, name) ∷ trace_files c)
+    opens_so opened (inl is) = record { rest = trace_files c; is = ap (λ (l : List (Slot × List ℕ)). ((Spec, name) ∷ l) ++ trace_files c) (sym is) }
+    opens_so opened (inr is) = record { rest = []; is = ap (λ (l : List (Slot × List ℕ)). (Spec, name) ∷ l) (sym is) ∙ sym (append-nil ((Spec, name) ∷ opened)) }
 
-  -- a text is printed
-  module _ (source : List ℕ) (g : GivesSource source reads) (f : Form) (task_is : task ≡ print f) (part : List Did) (p : Prints source f part) where
-    print_after : Tail task part
-    print_after = record {
-      opens = inl (openings_none part (gifts_transfer Out part p.writes.gifts));
-      makes = creations_none part (gifts_transfer Out part p.writes.gifts);
-      spec = gifts_read_none Out Spec part p.writes.gifts;
-      ends = at_no_read Trace _ part (gifts_read_none Out Trace part p.writes.gifts);
-      pieces = gifts_within Out MOST_PIECE_BYTES part p.writes.gifts;
-      silent = gifts_elsewhere Out Err refl part p.writes.gifts;
+    opens_asked : (opened : List (Slot × List ℕ)) → (opened ≡ []) ⊎ (opened ≡ trace_files c) → Begins ((Spec, name) ∷ opened) (program_files c ++ trace_files c)
+    opens_asked opened is = subst (λ (l : List (Slot × List ℕ)). Begins ((Spec, name) ∷ opened) (l ++ trace_files c)) (sym files_are) (opens_so opened is)
+
+    pub all_whole : (x : Seen) → HasWhole Spec x → AreWhole (program_files c) x
+    all_whole x w = subst (λ (l : List (Slot × List ℕ)). AreWhole l x) (sym files_are) (w, tt)
+
+    shows_tail : (rest : List Did) → Tail c rest → AtAll (λ less. HasWhole Spec (seen (front ++ less))) rest → StopsAtFailure (front ++ rest)
+        → AtReads Trace (λ less. IsDueAtRead (Some c) (seen (front ++ less))) rest
+        → AtReads Trace (λ less. GoesOnAtRead (Some c) (seen (front ++ less))) rest → IsPartlyDue (Some c) (seen (front ++ rest)) → Shows (Some c) (front ++ rest)
+    shows_tail rest tail is_whole stops due goes_on partly = record {
+      opens = subst (λ (l : List (Slot × List ℕ)). Begins l (program_files c ++ trace_files c)) (sym (front_openings rest)) (opens_asked (openings rest) tail.opens);
+      makes = front_creations rest ∙ tail.makes;
+      spec_first = at_join (IsOpening Trace) (λ before. HasWhole Spec (seen before)) front rest (at_not (IsOpening Trace) (λ before. HasWhole Spec (seen before)) front no_opening_front)
+          (at_fewer IsAny (IsOpening Trace) (λ less. HasWhole Spec (seen (front ++ less))) rest (λ did is. tt) is_whole);
+      trace_last = at_join (IsRead Trace) (λ before. HasWhole Spec (seen before)) front rest (at_no_read Trace (λ before. HasWhole Spec (seen before)) front front_no_trace)
+          (at_fewer IsAny (IsRead Trace) (λ less. HasWhole Spec (seen (front ++ less))) rest (λ did is. tt) is_whole);
+      writes_last = λ to other. at_join (IsGift to) (λ before. IsAllWhole (Some c) (seen before)) front rest
+          (at_not (IsGift to) (λ before. IsAllWhole (Some c) (seen before)) front (each_more (IsNoGift to) (λ did. IsGift to did → ⊥) (not_gift to) front (front_no_gift to)))
+          (at_weaker (IsGift to) (λ less. HasWhole Spec (seen (front ++ less))) (λ less. IsAllWhole (Some c) (seen (front ++ less))) rest (λ less w. all_whole (seen (front ++ less)) w)
+          (at_fewer IsAny (IsGift to) (λ less. HasWhole Spec (seen (front ++ less))) rest (λ did is. tt) is_whole));
+      spec_ends = at_more Spec _ front rest (at_weaker (IsRead Spec) MayReadSpec _ front (λ before h. h.unended) front_reads) tail.spec;
+      trace_ends = at_after Trace (λ less. ended Trace less ≡ false) (λ before. ended Trace before ≡ false) front rest front_no_trace (λ less e. ended_after Trace front less front_no_trace ∙ e) tail.ends;
+      limit = at_more Spec _ front rest (at_weaker (IsRead Spec) MayReadSpec _ front (λ before h. h.within) front_reads) tail.spec;
+      pieces = Each-append (IsWithin MOST_PIECE_BYTES) front rest front_pieces tail.pieces;
+      stops = stops;
+      due = at_join (IsRead Trace) (λ before. IsDueAtRead (Some c) (seen before)) front rest (at_no_read Trace _ front front_no_trace) due;
+      goes_on = at_join (IsRead Trace) (λ before. GoesOnAtRead (Some c) (seen before)) front rest (at_no_read Trace _ front front_no_trace) goes_on;
+      partly = partly;
+      silent = Each-append (IsNoGift Err) front rest (front_no_gift Err) tail.silent;
     }
 
-    asked_print : asked_of words ≡ Some (name, print f)
-    asked_print = asked_is ∙ ap (λ (t : Task). Some (name, t)) task_is
-
-    -- the text is that of what was taken
-    printed_after : (text : List ℕ) → IsTextOf source f text → IsTextOf (taken Spec (front ++ part)) f text
-    printed_after text is = subst (λ (l : List ℕ). IsTextOf l f text) (sym (taken_before Spec front part (gifts_read_none Out Spec part p.writes.gifts) ∙ g.bytes_are)) is
-
-    pub of_print : (P : List ℕ → Type 0) → P p.text → OfPrint words (front ++ part) P
-    of_print P holds = record { name = name; form = f; asked = asked_print; whole = whole_more front part (gifts_read_none Out Spec part p.writes.gifts) g.whole; text = p.text; is = printed_after p.text p.is; holds = holds }
-
-    shows_print : Shows words (front ++ part)
-    shows_print =
-        shows_tail part print_after (whole_after source g part print_after.spec) (stops_after_front source g part p.writes.stops) (at_no_read Trace _ part (gifts_read_none Out Trace part p.writes.gifts)) (at_no_read Trace _ part (gifts_read_none Out Trace part p.writes.gifts))
-        (inr (inr (inl (of_print (λ text. Begins (given Out (front ++ part)) text) (subst (λ (l : List ℕ). Begins l p.text) (sym (given_after Out front part front_no_out)) p.some)))))
-
-  -- a trace is asked for
-  module _ (trace : List ℕ) (o : Options) (statistics : Bool) (task_is : task ≡ monitor trace o statistics) where
-    traces_are : traces_of task ≡ (Trace, trace) ∷ []
-    traces_are = ap traces_of task_is
-
-    asked_run : asked_of words ≡ Some (name, monitor trace o statistics)
-    asked_run = asked_is ∙ ap (λ (t : Task). Some (name, t)) task_is
-
-    -- the trace could not be opened
-    no_trace_after : Tail task (NotOpened Trace trace ∷ [])
-    no_trace_after = record {
-      opens = inr (sym traces_are);
+    -- nothing after it
+    nothing_after : Tail c []
+    nothing_after = record {
+      opens = inl refl;
       makes = refl;
-      spec = (tt, tt);
-      ends = at_no_read Trace _ (NotOpened Trace trace ∷ []) (tt, tt);
-      pieces = (tt, tt);
-      silent = (tt, tt);
+      spec = tt;
+      ends = at_none (IsRead Trace) _;
+      pieces = tt;
+      silent = tt;
     }
 
-    shows_no_trace : (source : List ℕ) → GivesSource source reads → Shows words (front ++ NotOpened Trace trace ∷ [])
-    shows_no_trace source g =
-        shows_tail (NotOpened Trace trace ∷ []) no_trace_after (whole_after source g (NotOpened Trace trace ∷ []) (tt, tt))
-        (stops_after_front source g (NotOpened Trace trace ∷ []) (stops_one [] (NotOpened Trace trace) tt)) (at_no_read Trace _ (NotOpened Trace trace ∷ []) (tt, tt))
-        (at_no_read Trace _ (NotOpened Trace trace ∷ []) (tt, tt))
-        (inl (given_none Out (front ++ NotOpened Trace trace ∷ []) (Each-append (IsNoGift Out) front (NotOpened Trace trace ∷ []) front_no_out (tt, tt))))
+    shows_front : Shows (Some c) (front ++ [])
+    shows_front =
+        shows_tail [] nothing_after (at_none IsAny _) (at_join IsAny (Each IsDone) front [] stops_front (at_none IsAny _)) (at_none (IsRead Trace) _)
+        (at_none (IsRead Trace) _) (inl (given_none Out (front ++ []) (Each-append (IsNoGift Out) front [] (front_no_gift Out) tt)))
 
-    module _ (source : List ℕ) (g : GivesSource source reads) (items : List tree.Item) (s : System) (compiled_so : Compiles source items s) where
+-- a text is printed
+module _ (name : List ℕ) (f : Form) (reads : List Did) (r : ReadsSpec reads) (source : List ℕ) (g : GivesSource source reads) (part : List Did) (p : Prints source f part) where
+  no_spec_after : Each (IsNoRead Spec) part
+  no_spec_after = gifts_read_none Out Spec part p.writes.gifts
+
+  no_trace_after : Each (IsNoRead Trace) part
+  no_trace_after = gifts_read_none Out Trace part p.writes.gifts
+
+  print_after : Tail (command.Write name f) part
+  print_after = record {
+    opens = inl (openings_none part (gifts_transfer Out part p.writes.gifts));
+    makes = creations_none part (gifts_transfer Out part p.writes.gifts);
+    spec = no_spec_after;
+    ends = at_no_read Trace _ part no_trace_after;
+    pieces = gifts_within Out MOST_PIECE_BYTES part p.writes.gifts;
+    silent = gifts_elsewhere Out Err refl part p.writes.gifts;
+  }
+
+  -- the text is that of what was taken
+  pub of_text : (P : List ℕ → Type 0) → P p.text → OfText f (seen (Opened Spec name ∷ (reads ++ part))) P
+  of_text P holds = record {
+    whole = whole_now name reads r source g part no_spec_after;
+    text = p.text;
+    is = subst (λ (l : List ℕ). IsTextOf l f p.text) (sym (taken_now name reads r source g part no_spec_after)) p.is;
+    holds = holds;
+  }
+
+  shows_print : Shows (Some (command.Write name f)) (Opened Spec name ∷ (reads ++ part))
+  shows_print =
+      shows_tail name reads r (command.Write name f) refl part print_after (whole_after name reads r source g part no_spec_after) (stops_after_front name reads r source g part p.writes.stops)
+      (at_no_read Trace _ part no_trace_after) (at_no_read Trace _ part no_trace_after)
+      (inr (of_text (λ text. Begins (given Out (Opened Spec name ∷ (reads ++ part))) text)
+      (subst (λ (l : List ℕ). Begins l p.text) (sym (given_after Out (Opened Spec name ∷ reads) part (front_no_gift name reads r Out))) p.some)))
+
+-- a trace is asked for
+module _ (run : Run) (reads : List Did) (r : ReadsSpec reads) where
+  abbrev front_of : List Did
+  front_of = Opened Spec run.spec ∷ reads
+
+  abbrev o : Options
+  o = options_of run
+
+  no_trace_in : Each (IsNoRead Trace) front_of
+  no_trace_in = front_no_trace run.spec reads r
+
+  no_out_in : Each (IsNoGift Out) front_of
+  no_out_in = front_no_gift run.spec reads r Out
+
+  -- the trace could not be opened
+  unopened_after : Tail (command.Run run) (NotOpened Trace run.trace ∷ [])
+  unopened_after = record {
+    opens = inr refl;
+    makes = refl;
+    spec = (tt, tt);
+    ends = at_no_read Trace _ (NotOpened Trace run.trace ∷ []) (tt, tt);
+    pieces = (tt, tt);
+    silent = (tt, tt);
+  }
+
+  module _ (source : List ℕ) (g : GivesSource source reads) where
+    shows_no_trace : Shows (Some (command.Run run)) (front_of ++ NotOpened Trace run.trace ∷ [])
+    shows_no_trace =
+        shows_tail run.spec reads r (command.Run run) refl (NotOpened Trace run.trace ∷ []) unopened_after (whole_after run.spec reads r source g (NotOpened Trace run.trace ∷ []) (tt, tt))
+        (stops_after_front run.spec reads r source g (NotOpened Trace run.trace ∷ []) (stops_one [] (NotOpened Trace run.trace) tt)) (at_no_read Trace _ (NotOpened Trace run.trace ∷ []) (tt, tt))
+        (at_no_read Trace _ (NotOpened Trace run.trace ∷ []) (tt, tt))
+        (inl (given_none Out (front_of ++ NotOpened Trace run.trace ∷ []) (Each-append (IsNoGift Out) front_of (NotOpened Trace run.trace ∷ []) no_out_in (tt, tt))))
+
+    module _ (items : List tree.Item) (s : System) (compiled_so : Compiles source items s) where
       -- what is taken of the specification, after which nothing of it is read
-      pub compiled_after : (less : List Did) → Each (IsNoRead Spec) less → Compiles (taken Spec (front ++ less)) items s
-      compiled_after less none = subst (λ (l : List ℕ). Compiles l items s) (sym (taken_before Spec front less none ∙ g.bytes_are)) compiled_so
+      compiled_after : (less : List Did) → Each (IsNoRead Spec) less → Compiles (taken Spec (front_of ++ less)) items s
+      compiled_after less none = subst (λ (l : List ℕ). Compiles l items s) (sym (taken_now run.spec reads r source g less none)) compiled_so
 
-      pub of_run : (less : List Did) (P : List tree.Item → System → Options → Type 0) → Each (IsNoRead Spec) less → P items s o → OfRun words (front ++ less) P
-      of_run less P none holds = record { name = name; trace = trace; options = o; statistics = statistics; asked = asked_run; items = items; system = s; compiled = compiled_after less none; holds = holds }
+      pub of_source : (less : List Did) (P : List tree.Item → System → Type 0) → Each (IsNoRead Spec) less → P items s → OfSource (seen (front_of ++ less)) P
+      of_source less P none holds = record { items = items; system = s; compiled = compiled_after less none; holds = holds }
 
-      of_items : (less : List Did) (P : List tree.Item → Options → Type 0) → Each (IsNoRead Spec) less → P items o → OfItems words (front ++ less) P
+      of_items : (less : List Did) (P : List tree.Item → Type 0) → Each (IsNoRead Spec) less → P items → OfItems (seen (front_of ++ less)) P
       of_items less P none holds =
           let has = (compiled_after less none).spells.system in
-          record { name = name; trace = trace; options = o; statistics = statistics; asked = asked_run; items = items; kinds = has.kinds; specifies = has.specifies; holds = holds }
+          record { items = items; kinds = has.kinds; specifies = has.specifies; holds = holds }
 
       -- what is due, what goes on and what ends after the front is what it is without it
-      due_after : (less : List Did) (e : Bool) (text : List ℕ) → IsDue s o (taken Trace less) e text → IsDue s o (taken Trace (front ++ less)) e text
-      due_after less e text due = subst (λ (l : List ℕ). IsDue s o l e text) (sym (taken_after Trace front less front_no_trace)) due
+      due_after : (less : List Did) (e : Bool) (text : List ℕ) → IsDue s o (taken Trace less) e text → IsDue s o (taken Trace (front_of ++ less)) e text
+      due_after less e text due = subst (λ (l : List ℕ). IsDue s o l e text) (sym (taken_after Trace front_of less no_trace_in)) due
 
-      given_so : (less : List Did) (e : Bool) → IsDue s o (taken Trace less) e (given Out less) → IsDue s o (taken Trace (front ++ less)) e (given Out (front ++ less))
-      given_so less e due = subst (λ (l : List ℕ). IsDue s o (taken Trace (front ++ less)) e l) (sym (given_after Out front less front_no_out)) (due_after less e (given Out less) due)
+      given_so : (less : List Did) (e : Bool) → IsDue s o (taken Trace less) e (given Out less) → IsDue s o (taken Trace (front_of ++ less)) e (given Out (front_of ++ less))
+      given_so less e due = subst (λ (l : List ℕ). IsDue s o (taken Trace (front_of ++ less)) e l) (sym (given_after Out front_of less no_out_in)) (due_after less e (given Out less) due)
 
-      ended_so : (less : List Did) → ended Trace (front ++ less) ≡ ended Trace less
-      ended_so less = ended_after Trace front less front_no_trace
+      ended_so : (less : List Did) → ended Trace (front_of ++ less) ≡ ended Trace less
+      ended_so less = ended_after Trace front_of less no_trace_in
 
-      all_ends : (state : engine.State) (how : RunEnding) (part : List Did) → WatchEnds s o state how part → WatchEnds s o state how (front ++ Opened Trace trace ∷ part)
-      all_ends state how part w = let rest = Opened Trace trace ∷ part in record {
-        due = subst (λ (e : Bool). IsDue s o (taken Trace (front ++ rest)) e (given Out (front ++ rest))) (sym (ended_so rest)) (given_so rest (ended Trace rest) w.due);
-        cause = subst (λ (e : Bool). EndsBy s o (taken Trace (front ++ rest)) e how) (sym (ended_so rest))
-            (subst (λ (l : List ℕ). EndsBy s o l (ended Trace rest) how) (sym (taken_after Trace front rest front_no_trace)) w.cause);
-        counted = subst (λ (e : Bool). HasCounted s o (taken Trace (front ++ rest)) e state how) (sym (ended_so rest))
-            (subst (λ (l : List ℕ). HasCounted s o l (ended Trace rest) state how) (sym (taken_after Trace front rest front_no_trace)) w.counted);
+      all_ends : (state : engine.State) (how : RunEnding) (part : List Did) → WatchEnds s o state how part → WatchEnds s o state how (front_of ++ Opened Trace run.trace ∷ part)
+      all_ends state how part w = let rest = Opened Trace run.trace ∷ part in record {
+        due = subst (λ (e : Bool). IsDue s o (taken Trace (front_of ++ rest)) e (given Out (front_of ++ rest))) (sym (ended_so rest)) (given_so rest (ended Trace rest) w.due);
+        cause = subst (λ (e : Bool). EndsBy s o (taken Trace (front_of ++ rest)) e how) (sym (ended_so rest))
+            (subst (λ (l : List ℕ). EndsBy s o l (ended Trace rest) how) (sym (taken_after Trace front_of rest no_trace_in)) w.cause);
+        counted = subst (λ (e : Bool). HasCounted s o (taken Trace (front_of ++ rest)) e state how) (sym (ended_so rest))
+            (subst (λ (l : List ℕ). HasCounted s o l (ended Trace rest) state how) (sym (taken_after Trace front_of rest no_trace_in)) w.counted);
       }
 
-      pub ends_after : (state : engine.State) (how : RunEnding) (part : List Did) → WatchEnds s o state how part → WatchEndsAsMeant items s o how (front ++ Opened Trace trace ∷ part)
-      ends_after state how part w = watch_ends_meant source items s o compiled_so state how (front ++ Opened Trace trace ∷ part) (all_ends state how part w)
+      pub ends_after : (state : engine.State) (how : RunEnding) (part : List Did) → WatchEnds s o state how part → WatchEndsAsMeant items s o how (seen (front_of ++ Opened Trace run.trace ∷ part))
+      ends_after state how part w = watch_ends_meant source items s o compiled_so state how (front_of ++ Opened Trace run.trace ∷ part) (all_ends state how part w)
 
       -- what is told of the updates
       pub statistics_after : (state : engine.State) → IsTakenPlan s state.in_place state.order → (how : RunEnding) (part : List Did) (text : List ℕ) → WatchEnds s o state how part → text ≡ counted_text s state true
-          → AreStatistics s o (taken Trace (front ++ Opened Trace trace ∷ part)) (ended Trace (front ++ Opened Trace trace ∷ part)) how text
-      statistics_after state taken_plan how part text w is = statistics_meant s o state taken_plan how (front ++ Opened Trace trace ∷ part) text (all_ends state how part w) is
+          → AreStatistics s o (taken Trace (front_of ++ Opened Trace run.trace ∷ part)) (ended Trace (front_of ++ Opened Trace run.trace ∷ part)) how text
+      statistics_after state taken_plan how part text w is = statistics_meant s o state taken_plan how (front_of ++ Opened Trace run.trace ∷ part) text (all_ends state how part w) is
 
       module _ (part : List Did) (w : Watched s o part) where
         spec_none : Each (IsNoRead Spec) part
@@ -316,77 +347,106 @@ module _ (words : List (List ℕ)) (name : List ℕ) (task : Task) (asked_is : a
         before_read : AtReads Trace (λ less. MayRead s o less × Each (IsNoRead Spec) less) part
         before_read before r = (w.reads before r, at_fewer IsAny (IsRead Trace) (Each (IsNoRead Spec)) part (λ did is. tt) (at_each (IsNoRead Spec) part spec_none) before r)
 
-        watched_after : Tail task (Opened Trace trace ∷ part)
+        watched_after : Tail (command.Run run) (Opened Trace run.trace ∷ part)
         watched_after = record {
-          opens = inr (ap (λ (l : List (Slot × List ℕ)). (Trace, trace) ∷ l) (openings_none part moves) ∙ sym traces_are);
+          opens = inr (ap (λ (l : List (Slot × List ℕ)). (Trace, run.trace) ∷ l) (openings_none part moves));
           makes = creations_none part moves;
           spec = (tt, spec_none);
-          ends = at_after Trace (MayRead s o) (λ less. ended Trace less ≡ false) (Opened Trace trace ∷ []) part (tt, tt) (λ less h. h.unended) w.reads;
+          ends = at_after Trace (MayRead s o) (λ less. ended Trace less ≡ false) (Opened Trace run.trace ∷ []) part (tt, tt) (λ less h. h.unended) w.reads;
           pieces = (tt, each_work (IsWithin MOST_PIECE_BYTES) (λ bytes short. short) (λ bytes. tt) tt tt part w.work);
           silent = (tt, each_work (IsNoGift Err) (λ bytes short. tt) (λ bytes. refl) tt refl part w.work);
         }
 
-        pub shows_watched : Shows words (front ++ Opened Trace trace ∷ part)
+        pub shows_watched : Shows (Some (command.Run run)) (front_of ++ Opened Trace run.trace ∷ part)
         shows_watched =
-            shows_tail (Opened Trace trace ∷ part) watched_after (whole_after source g (Opened Trace trace ∷ part) (tt, spec_none))
-            (stops_after_front source g (Opened Trace trace ∷ part) (at_each_join IsDone (Opened Trace trace ∷ []) part (tt, tt) w.stops))
+            shows_tail run.spec reads r (command.Run run) refl (Opened Trace run.trace ∷ part) watched_after (whole_after run.spec reads r source g (Opened Trace run.trace ∷ part) (tt, spec_none))
+            (stops_after_front run.spec reads r source g (Opened Trace run.trace ∷ part) (at_each_join IsDone (Opened Trace run.trace ∷ []) part (tt, tt) w.stops))
             (at_after Trace (λ less. MayRead s o less × Each (IsNoRead Spec) less)
-            (λ less. OfItems words (front ++ less) (λ items o. IsDueAsMeant items o (taken Trace (front ++ less)) false (given Out (front ++ less)))) (Opened Trace trace ∷ []) part (tt, tt)
-            (λ less h. of_items (Opened Trace trace ∷ less) (λ items o. IsDueAsMeant items o (taken Trace (front ++ Opened Trace trace ∷ less)) false (given Out (front ++ Opened Trace trace ∷ less))) (tt, h.1)
-            (due_meant source items s o compiled_so (taken Trace (front ++ Opened Trace trace ∷ less)) false (given Out (front ++ Opened Trace trace ∷ less)) (given_so (Opened Trace trace ∷ less) false h.0.due))) before_read)
+            (λ less. OfItems (seen (front_of ++ less)) (λ items. IsDueAsMeant items o (taken Trace (front_of ++ less)) false (given Out (front_of ++ less)))) (Opened Trace run.trace ∷ []) part (tt, tt)
+            (λ less h. of_items (Opened Trace run.trace ∷ less) (λ items. IsDueAsMeant items o (taken Trace (front_of ++ Opened Trace run.trace ∷ less)) false (given Out (front_of ++ Opened Trace run.trace ∷ less))) (tt, h.1)
+            (due_meant source items s o compiled_so (taken Trace (front_of ++ Opened Trace run.trace ∷ less)) false (given Out (front_of ++ Opened Trace run.trace ∷ less)) (given_so (Opened Trace run.trace ∷ less) false h.0.due))) before_read)
             (at_after Trace (λ less. MayRead s o less × Each (IsNoRead Spec) less)
-            (λ less. OfRun words (front ++ less) (λ items s o. GoesOnAsMeant items o (taken Trace (front ++ less)))) (Opened Trace trace ∷ []) part (tt, tt)
-            (λ less h. of_run (Opened Trace trace ∷ less) (λ items s o. GoesOnAsMeant items o (taken Trace (front ++ Opened Trace trace ∷ less))) (tt, h.1)
-            (goes_on_meant source items s o compiled_so (taken Trace (front ++ Opened Trace trace ∷ less))
-            (subst (λ (l : List ℕ). GoesOn s o l) (sym (taken_after Trace front (Opened Trace trace ∷ less) front_no_trace)) h.0.goes_on))) before_read)
-            (inr (inl (of_run (Opened Trace trace ∷ part) (λ items s o. BeginsAsMeant items o (front ++ Opened Trace trace ∷ part)) (tt, spec_none)
-            (begins_meant source items s o compiled_so (front ++ Opened Trace trace ∷ part) begins))))
+            (λ less. OfSource (seen (front_of ++ less)) (λ items s. GoesOnAsMeant items o (taken Trace (front_of ++ less)))) (Opened Trace run.trace ∷ []) part (tt, tt)
+            (λ less h. of_source (Opened Trace run.trace ∷ less) (λ items s. GoesOnAsMeant items o (taken Trace (front_of ++ Opened Trace run.trace ∷ less))) (tt, h.1)
+            (goes_on_meant source items s o compiled_so (taken Trace (front_of ++ Opened Trace run.trace ∷ less))
+            (subst (λ (l : List ℕ). GoesOn s o l) (sym (taken_after Trace front_of (Opened Trace run.trace ∷ less) no_trace_in)) h.0.goes_on))) before_read)
+            (inr (of_source (Opened Trace run.trace ∷ part) (λ items s. BeginsAsMeant items o (seen (front_of ++ Opened Trace run.trace ∷ part))) (tt, spec_none)
+            (begins_meant source items s o compiled_so (front_of ++ Opened Trace run.trace ∷ part) begins)))
           where
-            begins : BeginsDue s o (front ++ Opened Trace trace ∷ part)
-            begins = let rest = Opened Trace trace ∷ part in record {
+            begins : BeginsDue s o (front_of ++ Opened Trace run.trace ∷ part)
+            begins = let rest = Opened Trace run.trace ∷ part in record {
               text = w.partly.text;
-              due = subst (λ (e : Bool). IsDue s o (taken Trace (front ++ rest)) e w.partly.text) (sym (ended_so rest)) (due_after rest (ended Trace rest) w.partly.text w.partly.due);
-              begins = subst (λ (l : List ℕ). Begins l w.partly.text) (sym (given_after Out front rest front_no_out)) w.partly.begins;
+              due = subst (λ (e : Bool). IsDue s o (taken Trace (front_of ++ rest)) e w.partly.text) (sym (ended_so rest)) (due_after rest (ended Trace rest) w.partly.text w.partly.due);
+              begins = subst (λ (l : List ℕ). Begins l w.partly.text) (sym (given_after Out front_of rest no_out_in)) w.partly.begins;
             }
 
--- what a run of a specification shows, and of words
-shows_spec : (words : List (List ℕ)) (name : List ℕ) (task : Task) → asked_of words ≡ Some (name, task) → (part : List Did) → RunsSpec name task part → Shows words part
-shows_spec words name task is _ unopened = shows_none words
-shows_spec words name task is _ no_spec =
-    shows_few words (NotOpened Spec name ∷ []) (inr (name, task, is, record { rest = traces_of task; is = refl })) refl ((λ (same : false ≡ true). cc), tt) (tt, tt) (tt, tt)
-    (λ to. (tt, tt)) (tt, tt) (stops_one [] (NotOpened Spec name) tt)
-shows_spec words name task is _ (reading reads r) = subst (λ (l : List Did). Shows words l) (ap (λ (l : List Did). Opened Spec name ∷ l) (append-nil reads)) (shows_front words name task is reads r)
-shows_spec words name task is _ (whole reads rest source r g (uncompiled none)) =
-    subst (λ (l : List Did). Shows words (Opened Spec name ∷ (reads ++ l))) (sym none) (shows_front words name task is reads r)
-shows_spec words name task is _ (whole reads _ source r g (compiled trace o statistics monitors items s c idle)) = shows_front words name task is reads r
-shows_spec words name task is _ (whole reads _ source r g (compiled trace o statistics monitors items s c no_trace)) = shows_no_trace words name task is reads r trace o statistics monitors source g
-shows_spec words name task is _ (whole reads _ source r g (compiled trace o statistics monitors items s c (watched part w))) = shows_watched words name task is reads r trace o statistics monitors source g items s c part w
-shows_spec words name task is _ (whole reads rest source r g (prints f printing p)) = shows_print words name task is reads r source g f printing rest p
+-- what a command shows that begins with a specification
+shows_name : (c : Command) (name : List ℕ) → program_files c ≡ (Spec, name) ∷ [] → (part : List Did) → ReadsName name part → Shows (Some c) part
+shows_name c name files _ unopened = shows_none (Some c)
+shows_name c name files _ no_spec =
+    shows_few (Some c) (NotOpened Spec name ∷ []) (subst (λ (l : List (Slot × List ℕ)). Begins ((Spec, name) ∷ []) (l ++ trace_files c)) (sym files) (record { rest = trace_files c; is = refl })) refl
+    ((λ (same : false ≡ true). cc), tt) (tt, tt) (tt, tt) (λ to. (tt, tt)) (tt, tt) (stops_one [] (NotOpened Spec name) tt)
+shows_name c name files _ (reading reads r) = subst (λ (l : List Did). Shows (Some c) l) (ap (λ (l : List Did). Opened Spec name ∷ l) (append-nil reads)) (shows_front name reads r c files)
 
--- what a run shows that writes a text without a specification
-shows_alone : (words : List (List ℕ)) (a : Alone) → alone_of words ≡ Some a → (part : List Did) → PrintsText (IsAloneText a) part → Shows words part
-shows_alone words a is part p = record {
-  opens = inl (openings_none part moves);
+shows_write : (name : List ℕ) (f : Form) (part : List Did) → Does (command.Write name f) part → Shows (Some (command.Write name f)) part
+shows_write name f _ (unread part reads) = shows_name (command.Write name f) name refl part reads
+shows_write name f _ (whole reads rest source r g (uncompiled none)) =
+    subst (λ (l : List Did). Shows (Some (command.Write name f)) (Opened Spec name ∷ (reads ++ l))) (sym none) (shows_front name reads r (command.Write name f) refl)
+shows_write name f _ (whole reads rest source r g (compiled p)) = shows_print name f reads r source g rest p
+
+shows_monitored : (run : Run) (reads : List Did) (r : ReadsSpec reads) (source : List ℕ) (g : GivesSource source reads) (items : List tree.Item) (s : System) → Compiles source items s
+    → (rest : List Did) → RunsSystem run.trace s (options_of run) rest → Shows (Some (command.Run run)) (Opened Spec run.spec ∷ (reads ++ rest))
+shows_monitored run reads r source g items s c _ idle = shows_front run.spec reads r (command.Run run) refl
+shows_monitored run reads r source g items s c _ no_trace = shows_no_trace run reads r source g
+shows_monitored run reads r source g items s c _ (watched part w) = shows_watched run reads r source g items s c part w
+
+shows_trace : (run : Run) (part : List Did) → Does (command.Run run) part → Shows (Some (command.Run run)) part
+shows_trace run _ (unread part reads) = shows_name (command.Run run) run.spec refl part reads
+shows_trace run _ (whole reads rest source r g (uncompiled none)) =
+    subst (λ (l : List Did). Shows (Some (command.Run run)) (Opened Spec run.spec ∷ (reads ++ l))) (sym none) (shows_front run.spec reads r (command.Run run) refl)
+shows_trace run _ (whole reads rest source r g (compiled m)) = shows_monitored run reads r source g m.items m.system m.compiles rest m.runs
+
+-- what a command shows that writes a text without one
+shows_alone : (c : Command) → program_files c ≡ [] → (P : List ℕ → Type 0) (part : List Did) → ((text : List ℕ) → P text → Begins (given Out part) text → BeginsOut (Some c) (seen part))
+    → PrintsText P part → Shows (Some c) part
+shows_alone c files P part says p = record {
+  opens = record { rest = program_files c ++ trace_files c; is = ap (λ (l : List (Slot × List ℕ)). l ++ (program_files c ++ trace_files c)) (sym (openings_none part moves)) };
   makes = creations_none part moves;
-  spec_first = at_not (IsOpening Trace) HasWhole part (no_opening_in Trace part moves);
+  spec_first = at_not (IsOpening Trace) (λ before. HasWhole Spec (seen before)) part (no_opening_in Trace part moves);
   spec_ends = at_no_read Spec _ part (gifts_read_none Out Spec part p.writes.gifts);
   trace_ends = at_no_read Trace _ part (gifts_read_none Out Trace part p.writes.gifts);
-  trace_last = at_no_read Trace HasWhole part (gifts_read_none Out Trace part p.writes.gifts);
-  writes_last = λ to other before r spec task asked_is. absurd (apart (requested words) (spec, task) a asked_is is);
+  trace_last = at_no_read Trace (λ before. HasWhole Spec (seen before)) part (gifts_read_none Out Trace part p.writes.gifts);
+  writes_last = λ to other before at. subst (λ (l : List (Slot × List ℕ)). AreWhole l (seen before)) (sym files) tt;
   limit = at_no_read Spec _ part (gifts_read_none Out Spec part p.writes.gifts);
   pieces = gifts_within Out MOST_PIECE_BYTES part p.writes.gifts;
   stops = p.writes.stops;
-  due = at_no_read Trace _ part (gifts_read_none Out Trace part p.writes.gifts);
-  goes_on = at_no_read Trace _ part (gifts_read_none Out Trace part p.writes.gifts);
-  partly = inr (inr (inr (record { what = a; asked = is; text = p.text; is = p.is; holds = p.some })));
+  due = at_no_read Trace (λ before. IsDueAtRead (Some c) (seen before)) part (gifts_read_none Out Trace part p.writes.gifts);
+  goes_on = at_no_read Trace (λ before. GoesOnAtRead (Some c) (seen before)) part (gifts_read_none Out Trace part p.writes.gifts);
+  partly = inr (says p.text p.is p.some);
   silent = gifts_elsewhere Out Err refl part p.writes.gifts;
 }
   where
     moves : Each IsTransfer part
     moves = gifts_transfer Out part p.writes.gifts
 
-pub shows_run : (words : List (List ℕ)) (part : List Did) → RunsWords words part → Shows words part
-shows_run words part (unasked none) = subst (λ (l : List Did). Shows words l) (sym none) (shows_none words)
-shows_run words part (asked name task is runs) = shows_spec words name task is part runs
-shows_run words part (samples a is (unmade none)) = subst (λ (l : List Did). Shows words l) (sym none) (shows_none words)
-shows_run words part (samples a is (writes p)) = shows_alone words a is part p
+shows_text : (c : Command) → program_files c ≡ [] → (P : List ℕ → Type 0) (part : List Did) → ((text : List ℕ) → P text → Begins (given Out part) text → BeginsOut (Some c) (seen part))
+    → RunsAlone P part → Shows (Some c) part
+shows_text c files P part says (unmade none) = subst (λ (l : List Did). Shows (Some c) l) (sym none) (shows_none (Some c))
+shows_text c files P part says (writes p) = shows_alone c files P part says p
+
+-- what each command shows
+pub shows_asked : (c : Option Command) (part : List Did) → DoesAsked c part → Shows c part
+shows_asked None part none = subst (λ (l : List Did). Shows None l) (sym none) (shows_none None)
+shows_asked (Some (command.Write name f)) part does = shows_write name f part does
+shows_asked (Some (command.Run run)) part does = shows_trace run part does
+shows_asked (Some (command.Generate n)) part does =
+    shows_text (command.Generate n) refl (λ text. text ≡ trace_text n) part (λ text is begins. subst (λ (l : List ℕ). Begins (given Out part) l) is begins) does
+shows_asked (Some (command.Bench kind n)) part does = shows_text (command.Bench kind n) refl (IsTallyText kind n) part (λ text is begins. (text, is, begins)) does
+
+-- where nothing was done
+pub does_none : (c : Option Command) → DoesAsked c []
+does_none None = refl
+does_none (Some (command.Write name f)) = unread [] unopened
+does_none (Some (command.Run run)) = unread [] unopened
+does_none (Some (command.Generate n)) = unmade refl
+does_none (Some (command.Bench kind n)) = unmade refl

@@ -1,5 +1,6 @@
 pub mod Reading
 pub mod Facts
+pub mod Phases
 pub mod Printing
 pub mod Counting
 pub mod Failing

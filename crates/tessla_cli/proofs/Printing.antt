@@ -7,7 +7,7 @@ use Rattle.tsl_world.specs.declared.outside.Channel.TheVariants.{Out}
 use Rattle.tsl_world.specs.declared.outside.Did.{Did}
 use Rattle.tsl_world.specs.Journal.{Each, IsAny, IsDone}
 use Rattle.tsl_world.proofs.Places.{at_none}
-use Rattle.tessla_cli.specs.declared.task.Form.{Form}
+use Rattle.command_words.specs.declared.command.Form.{Form}
 use Rattle.trace_run.specs.Effects.{Gives}
 use Rattle.tessla_cli.specs.Printed.{HasText, IsTextOf}
 use Rattle.tessla_cli.specs.inner.RunPhases.{Prints, HasPrinted, PrintsText, HasPrintedText}

@@ -1,15 +1,21 @@
 -- What a run shows and how it ends, after the line that tells it.
-use Rattle.std.proofs.Common.{◌≡◌, ◌≢◌, ◌⊎◌, inl, inr, ℕ, Bool, true, false, List, [], ◌∷◌, ◌++◌, refl, sym, ◌∙◌, ap, subst, arith, Option, Some, None, option_and_then}
-use Rattle.std.specs.Option.{option_map_or}
+use Rattle.std.proofs.Common.{◌≡◌, ◌≢◌, ◌⊎◌, inl, inr, ℕ, Bool, true, false, List, [], ◌∷◌, ◌++◌, refl, sym, ◌∙◌, ap, subst, arith, Option, Some, None}
+use Rattle.std.proofs.lemmas.Bool.{true≢false}
+use Rattle.std.proofs.lemmas.List.{append-nil}
 use Rattle.alias_rules.specs.Fine.{IsTakenPlan}
+use Rattle.command_words.specs.declared.command.Command.{Command}
+use Rattle.command_words.specs.declared.command.Command.TheVariants as command
+use Rattle.command_words.specs.declared.command.Form.{Form}
+use Rattle.command_words.specs.declared.command.Run.{Run}
+use Rattle.command_words.specs.declared.command.Workload.{Workload}
 use Rattle.flat_core.specs.System.{System}
 use Rattle.monitor_run.specs.inner.State as engine
+use Rattle.sample_trace.specs.Trace.{trace_text}
 use Rattle.syntax_tree.specs.Tree as tree
 use Rattle.spec_reader.specs.declared.fault.SpecFault.{SpecFault}
 use Rattle.spec_compiler.specs.Compiled.{Compiles, IsRefusedBy}
 use Rattle.trace_monitor.specs.declared.ending.RunEnding.{RunEnding}
 use Rattle.trace_monitor.specs.declared.ending.RunEnding.TheVariants as run
-use Rattle.trace_monitor.specs.declared.options.Options.{Options}
 use Rattle.tsl_world.specs.Begins.{Begins, BeginsStrictly}
 use Rattle.tsl_world.specs.declared.outside.Did.{Did}
 use Rattle.tsl_world.specs.declared.outside.Did.TheVariants.{Opened}
@@ -17,31 +23,34 @@ use Rattle.tsl_world.specs.declared.outside.Slot.{Slot}
 use Rattle.tsl_world.specs.declared.outside.Slot.TheVariants.{Spec, Trace}
 use Rattle.tsl_world.specs.declared.outside.Channel.TheVariants.{Out, Err}
 use Rattle.tsl_world.specs.Journal.{given, taken, ended, openings, AtEntries, IsAny, IsDone, IsNoFailedGift, IsNoRead, IsNoGift, IsOpening, IsTransfer, IsGift, Each, StopsAtFailure}
+use Rattle.tsl_world.specs.Seen.{Seen, seen}
 use Rattle.tsl_world.proofs.Journals.{given-append, Each-append, each_more}
-use Rattle.tsl_world.proofs.Untouched.{gift_elsewhere, gift_transfer, gifts_read_none, gifts_transfer, gifts_within, gifts_elsewhere, done_no_failed_gift, no_failed_gift, not_gift, same_channel_back, transfer_opens_none, taken_before, ended_before, given_before, given_after, given_none, openings_before, creations_before, openings_none}
+use Rattle.tsl_world.proofs.Untouched.{gift_elsewhere, gift_transfer, gifts_read_none, gifts_transfer, gifts_within, done_no_failed_gift, no_failed_gift, not_gift, same_channel_back, transfer_opens_none, given_after, given_none, openings_before, creations_before, openings_none}
+use Rattle.tsl_world.proofs.Telling.{seen_told}
 use Rattle.tsl_world.proofs.Places.{at_each_join, at_fewer, at_join, at_more, at_not, at_weaker}
 use Rattle.tessla_cli.specs.declared.ending.Ended.{Ended}
 use Rattle.tessla_cli.specs.declared.ending.Ending.{Ending}
 use Rattle.tessla_cli.specs.declared.ending.Ending.TheVariants as ending
 use Rattle.trace_run.specs.declared.broken.Broken.{Broken}
 use Rattle.trace_run.specs.declared.broken.Broken.TheVariants as broken
-use Rattle.tessla_cli.specs.Alone.{AloneStops}
-use Rattle.tessla_cli.specs.Conduct.{HasWhole, IsAllWhole, OfPrint, OfAlone, EndsRun, AloneEnds, SpecRefused, IsPartlyDue, RunEnds, StopsAtFailures}
+use Rattle.trace_run.specs.declared.run.Ran.{Ran}
+use Rattle.tessla_cli.specs.Alone.{BenchStops, IsTallyText}
+use Rattle.tessla_cli.specs.Asked.{for_asked, options_of, program_files}
+use Rattle.tessla_cli.specs.Causes.{Cause, Stands}
+use Rattle.tessla_cli.specs.Conduct.{IsAllWhole, IsPartlyDue, StopsAtFailures}
 use Rattle.tessla_cli.specs.Endings.{OfEnding, ending_of}
 use Rattle.tessla_cli.specs.Failures.{Failures, NoneFailed, CallFailed, WriteFailed, SomeFailed}
-use Rattle.tessla_cli.specs.Headline.{OfRun}
-use Rattle.trace_run.specs.Meant.{IsDueAsMeant, EndsAsMeant, BeginsAsMeant, WatchEndsAsMeant}
+use Rattle.tessla_cli.specs.Headline.{OfSource}
+use Rattle.trace_run.specs.Meant.{WatchEndsAsMeant}
 use Rattle.tessla_cli.specs.Messages.{ended_text, broken_line, status_of}
-use Rattle.tessla_cli.specs.Outcome.{Ends, Faulted, IsToldBefore, unasked, refused_before, counted, Limited, LineRefused, Refused, TellsFailure, told_failure, untold_ending, untold_memory, untold_failure, Outcome, told, outside, memory, ShowsAlways, Concludes, TellsBroken, all_of_broken, some_of_broken, TellsEnding, all_of_ending, some_of_ending, no_text}
-use Rattle.trace_run.specs.Effects.{Watched, WatchEnds, Writes, ends}
-use Rattle.tessla_cli.specs.inner.RunPhases.{ReadsSpec, GivesSource, SourceEnds, spec_refused, compiled_ends, printed, whole_ends, WordsEnd, words_refused, asked_ends, sampled, AloneIsDone, written, stopped}
-use Rattle.tessla_cli.specs.Printed.{IsTextOf}
+use Rattle.tessla_cli.specs.Outcome.{Ends, EndsWith, IsToldBefore, unasked, refused_before, counted, TellsFailure, told_failure, untold_ending, untold_memory, untold_failure, Outcome, told, outside, memory, ShowsAlways, Concludes, TellsBroken, all_of_broken, some_of_broken, TellsEnding, all_of_ending, some_of_ending, no_text}
+use Rattle.tessla_cli.specs.Stages.{HasWhole, at_program, at_work, opened_at, stage_of}
+use Rattle.tessla_cli.specs.Unseen.{NoUpdateIsSeen}
+use Rattle.trace_run.specs.Effects.{SystemEnds, Watched, WatchEnds, Writes, ends}
+use Rattle.tessla_cli.specs.inner.RunPhases.{ReadsSpec, GivesSource, Prints, SourceEnds, spec_refused, compiled_ends, HasMonitored, HasPrinted, HasWritten, whole_ends, AloneEnds, AloneIsDone, written, stopped, DoesAll, DoesAllAsked, WordsRefused}
 use Rattle.trace_run.specs.Statistics.{AreStatistics, counted_text}
-use Rattle.tessla_cli.specs.Tasks.{Alone, Request, Task, alone, alone_of, asked_of, asks_statistics, benched, has_statistics, made, monitor, names_of, over, requested, with_spec, without_spec}
 use Rattle.tessla_cli.proofs.Failing.{call_and_none, call_and_write, none_and_write}
-use Rattle.tessla_cli.proofs.Unseen.{no_update_is_seen}
-use Rattle.tessla_cli.proofs.Facts.{Shows, whole_more, of_run, of_print, ends_after, statistics_after, each_take, each_work}
-use Rattle.std.proofs.lemmas.List.{append-nil}
+use Rattle.tessla_cli.proofs.Facts.{Shows, all_whole, each_work, ends_after, front_no_gift, front_openings, of_source, of_text, statistics_after, taken_now, whole_now}
 
 -- a run that ends before the end of its trace is not done
 early_not_done : (how : RunEnding) → how ≢ run.Done → ending.Done ≡ ending_of how → ⊥
@@ -50,139 +59,173 @@ early_not_done (run.Trace fault) early is = absurd (let e : ending.Done ≡ endi
 early_not_done (run.Fault t k p) early is = absurd (let e : ending.Done ≡ ending.Fault t k p = is in cc)
 early_not_done (run.Limit n t) early is = absurd (let e : ending.Done ≡ ending.Limit n t = is in cc)
 
-run_not_words : (how : RunEnding) → ending.Words ≡ ending_of how → ⊥
+pub run_not_words : (how : RunEnding) → ending.Words ≡ ending_of how → ⊥
 run_not_words run.Done is = absurd (let e : ending.Words ≡ ending.Done = is in cc)
 run_not_words (run.Trace fault) is = absurd (let e : ending.Words ≡ ending.Trace fault = is in cc)
 run_not_words (run.Fault t k p) is = absurd (let e : ending.Words ≡ ending.Fault t k p = is in cc)
 run_not_words (run.Limit n t) is = absurd (let e : ending.Words ≡ ending.Limit n t = is in cc)
 
-run_not_spec : (fault : SpecFault) (how : RunEnding) → ending.Spec fault ≡ ending_of how → ⊥
-run_not_spec fault run.Done is = absurd (let e : ending.Spec fault ≡ ending.Done = is in cc)
-run_not_spec fault (run.Trace f) is = absurd (let e : ending.Spec fault ≡ ending.Trace f = is in cc)
-run_not_spec fault (run.Fault t k p) is = absurd (let e : ending.Spec fault ≡ ending.Fault t k p = is in cc)
-run_not_spec fault (run.Limit n t) is = absurd (let e : ending.Spec fault ≡ ending.Limit n t = is in cc)
+-- where there is no tally, not all is done, and the words are accepted
+pub stops_not_done : (kind : Workload) (n : ℕ) → BenchStops kind n ending.Done → ⊥
+stops_not_done kind n (inl (fault, refused, is)) = absurd (let e : ending.Done ≡ ending.Spec fault = is in cc)
+stops_not_done kind n (inr (how, ran, is)) = early_not_done how ran.is.early is
 
--- where there is no text, not all is done, and the words are accepted
-stops_not_done : (a : Alone) → AloneStops a ending.Done → ⊥
-stops_not_done (made n) stops = stops
-stops_not_done (benched kind n) (inl (fault, refused, is)) = absurd (let e : ending.Done ≡ ending.Spec fault = is in cc)
-stops_not_done (benched kind n) (inr (how, ran, is)) = early_not_done how ran.is.early is
+pub stops_not_words : (kind : Workload) (n : ℕ) → BenchStops kind n ending.Words → ⊥
+stops_not_words kind n (inl (fault, refused, is)) = absurd (let e : ending.Words ≡ ending.Spec fault = is in cc)
+stops_not_words kind n (inr (how, ran, is)) = run_not_words how is
 
-stops_not_words : (a : Alone) → AloneStops a ending.Words → ⊥
-stops_not_words (made n) stops = stops
-stops_not_words (benched kind n) (inl (fault, refused, is)) = absurd (let e : ending.Words ≡ ending.Spec fault = is in cc)
-stops_not_words (benched kind n) (inr (how, ran, is)) = run_not_words how is
+never : {A : Type 0} → false ≡ true → A
+never is = absurd (true≢false (sym is))
 
--- whether statistics are asked for, by what is asked for
-abbrev tells_of : Option (List ℕ × Task) → Bool
-tells_of asked = option_map_or (λ a. has_statistics a.1) asked false
-
-asks_as : (words : List (List ℕ)) (name : List ℕ) (task : Task) → asked_of words ≡ Some (name, task) → asks_statistics words ≡ has_statistics task
-asks_as words name task is = ap tells_of is
-
--- none are where nothing is done with a specification of the outside
-alone_unasked : (r : Option Request) (a : Alone) → option_and_then without_spec r ≡ Some a → tells_of (option_and_then with_spec r) ≡ false
-alone_unasked None a is = refl
-alone_unasked (Some (over name task)) a is = absurd (cc)
-alone_unasked (Some (alone b)) a is = refl
-
-module _ (words : List (List ℕ)) where
-  -- only these endings have a cause in the trace
-  of_watch : (by : Ending) (part : List Did) → EndsRun words by part → RunEnds words by part
-  of_watch ending.Done part f = inl f
-  of_watch ending.Words part f = absurd (run_not_words f.holds.how f.holds.by_is)
-  of_watch (ending.Spec fault) part f = absurd (run_not_spec fault f.holds.how f.holds.by_is)
-  of_watch (ending.Trace fault) part f = inl f
-  of_watch (ending.Fault t k p) part f = inl f
-  of_watch (ending.Limit n t) part f = inl f
-
-  -- and these one where there is no text
-  of_stops : (by : Ending) (part : List Did) → AloneEnds words by part → RunEnds words by part
-  of_stops ending.Done part f = absurd (stops_not_done f.what f.stops)
-  of_stops ending.Words part f = absurd (stops_not_words f.what f.stops)
-  of_stops (ending.Spec fault) part f = inr f
-  of_stops (ending.Trace fault) part f = inr f
-  of_stops (ending.Fault t k p) part f = inr f
-  of_stops (ending.Limit n t) part f = inr f
-
-  alone_ends : (by : Ending) (part : List Did) (a : Alone) → alone_of words ≡ Some a → AloneIsDone a by part → RunEnds words by part
-  alone_ends by part a is (written done p) =
-      subst (λ (b : Ending). RunEnds words b part) (sym done) (inr (inr (record {
-        wrote = record { what = a; asked = is; text = p.text; is = p.is; holds = p.whole };
-        opens = openings_none part (gifts_transfer Out part p.writes.gifts);
-      })))
-  alone_ends by part a is (stopped stops none) = of_stops by part record {
-    what = a;
-    asked = is;
-    stops = stops;
-    opens = ap (λ (l : List Did). openings l) none;
-    nothing = ap (λ (l : List Did). given Out l) none;
+-- A specification that is refused.
+module _ (c : Command) (name : List ℕ) (files : program_files c ≡ (Spec, name) ∷ []) (cause : (fault : SpecFault) (x : Seen) → IsRefusedBy (x.taken Spec) fault → Cause (Some c) x (ending.Spec fault))
+    (reads : List Did) (r : ReadsSpec reads) (source : List ℕ) (g : GivesSource source reads) where
+  refused_front : (fault : SpecFault) → IsRefusedBy source fault → Stands (Some c) (ending.Spec fault) (seen (Opened Spec name ∷ (reads ++ [])))
+  refused_front fault refused = let part = Opened Spec name ∷ (reads ++ []) in record {
+    holds = cause fault (seen part) (subst (λ (l : List ℕ). IsRefusedBy l fault) (sym (taken_now name reads r source g [] tt)) refused);
+    opens = front_openings name reads r [] ∙ sym files;
+    whole = all_whole name reads r c files (seen part) (whole_now name reads r source g [] tt);
+    silent = λ is. given_none Out part (Each-append (IsNoGift Out) (Opened Spec name ∷ reads) [] (front_no_gift name reads r Out) tt);
   }
 
-  module _ (name : List ℕ) (task : Task) (is : asked_of words ≡ Some (name, task)) (reads : List Did) (source : List ℕ) (r : ReadsSpec reads) (g : GivesSource source reads) where
-    refused_front : (fault : SpecFault) → IsRefusedBy source fault → SpecRefused words fault (Opened Spec name ∷ reads)
-    refused_front fault refused = record {
-      name = name;
-      task = task;
-      asked = is;
-      opens = ap (λ (l : List (Slot × List ℕ)). (Spec, name) ∷ l) (openings_none reads (each_take IsTransfer Spec (λ bytes short. tt) tt reads r.only));
-      whole = g.whole;
-      refused = subst (λ (l : List ℕ). IsRefusedBy l fault) (sym g.bytes_are) refused;
-      nothing = given_none Out reads (each_take (IsNoGift Out) Spec (λ bytes short. tt) tt reads r.only);
-    }
+  refused_stands : (by : Ended) (fault : SpecFault) (rest : List Did) → by.ending ≡ ending.Spec fault → IsRefusedBy source fault → rest ≡ []
+      → Stands (Some c) by.ending (seen (Opened Spec name ∷ (reads ++ rest)))
+  refused_stands by fault rest same refused none =
+      subst (λ (b : Ending). Stands (Some c) b (seen (Opened Spec name ∷ (reads ++ rest)))) (sym same)
+      (subst (λ (l : List Did). Stands (Some c) (ending.Spec fault) (seen (Opened Spec name ∷ (reads ++ l)))) (sym none) (refused_front fault refused))
 
-    source_ends : (by : Ended) (rest : List Did) → SourceEnds source task by rest → RunEnds words by.ending (Opened Spec name ∷ (reads ++ rest))
-    source_ends by rest (spec_refused {fault} same nothing refused none) =
-        subst (λ (b : Ending). RunEnds words b (Opened Spec name ∷ (reads ++ rest))) (sym same)
-        (inl (subst (λ (l : List Did). SpecRefused words fault (Opened Spec name ∷ l)) (sym (ap (λ (l : List Did). reads ++ l) none ∙ append-nil reads)) (refused_front fault refused)))
-    source_ends by _ (compiled_ends trace o statistics monitors items s c ran by_is told_is (ends state part taken_plan w e is_told)) =
-        let whole = Opened Spec name ∷ (reads ++ Opened Trace trace ∷ part) in
-        of_watch by.ending whole
-        (of_run words name task is reads r trace o statistics monitors source g items s c (Opened Trace trace ∷ part) (λ items s o. OfEnding by.ending (λ how. WatchEndsAsMeant items s o how whole))
-        (tt, each_work (IsNoRead Spec) (λ bytes short. refl) (λ bytes. tt) refl tt part w.work)
-        record { how = ran.ending; by_is = by_is; holds = ends_after words name task is reads r trace o statistics monitors source g items s c state ran.ending part e })
-    source_ends by rest (printed f printing done nothing p) =
-        let part = Opened Spec name ∷ (reads ++ rest) in
-        let begins : Begins (given Out rest) p.text = record { rest = []; is = sym p.whole ∙ sym (append-nil (given Out rest)) } in
-        let given_is : given Out part ≡ p.text = given_after Out (Opened Spec name ∷ reads) rest (tt, each_take (IsNoGift Out) Spec (λ bytes short. tt) tt reads r.only) ∙ p.whole in
-        subst (λ (b : Ending). RunEnds words b part) (sym done)
-        (inr (inl (of_print words name task is reads r source g f printing rest record { text = p.text; is = p.is; writes = p.writes; some = begins } (λ text. given Out part ≡ text) given_is)))
-
-    -- what is told of the updates of a run, with statistics or without
-    run_before : (trace : List ℕ) (o : Options) (statistics : Bool) → task ≡ monitor trace o statistics → (items : List tree.Item) (s : System) → Compiles source items s → (state : engine.State) → IsTakenPlan s state.in_place state.order
-        → (by : Ended) (how : RunEnding) (part : List Did) → by.ending ≡ ending_of how → Watched s o part → WatchEnds s o state how part → by.statistics ≡ counted_text s state statistics
-        → IsToldBefore words by.ending (Opened Spec name ∷ (reads ++ Opened Trace trace ∷ part)) by.statistics
-    run_before trace o false monitors items s c state taken_plan by how part by_is w e is_told = unasked (asks_as words name task is ∙ ap has_statistics monitors) is_told
-    run_before trace o true monitors items s c state taken_plan by how part by_is w e is_told =
-        let whole = Opened Spec name ∷ (reads ++ Opened Trace trace ∷ part) in
-        counted (asks_as words name task is ∙ ap has_statistics monitors)
-        (of_run words name task is reads r trace o true monitors source g items s c (Opened Trace trace ∷ part) (λ items s o. OfEnding by.ending (λ how. AreStatistics s o (taken Trace whole) (ended Trace whole) how by.statistics))
-        (tt, each_work (IsNoRead Spec) (λ bytes short. refl) (λ bytes. tt) refl tt part w.work)
-        record { how = how; by_is = by_is; holds = statistics_after words name task is reads r trace o true monitors source g items s c state taken_plan how part by.statistics e is_told })
-
-    source_before : (by : Ended) (rest : List Did) → SourceEnds source task by rest → IsToldBefore words by.ending (Opened Spec name ∷ (reads ++ rest)) by.statistics
-    source_before by rest (spec_refused {fault} same nothing refused none) = refused_before fault same nothing
-    source_before by _ (compiled_ends trace o statistics monitors items s c ran by_is told_is (ends state part taken_plan w e is_told)) =
-        run_before trace o statistics monitors items s c state taken_plan by ran.ending part by_is w e (told_is ∙ is_told)
-    source_before by rest (printed f printing done nothing p) = unasked (asks_as words name task is ∙ ap has_statistics printing) nothing
-
-  -- how a run ends, from its parts
-  pub run_ends : (by : Ended) (part : List Did) → WordsEnd words by part → RunEnds words by.ending part
-  run_ends by part (words_refused is nothing none empty) =
-      subst (λ (b : Ending). RunEnds words b part) (sym is) record {
-        refused = none;
-        opens = ap (λ (l : List Did). openings l) empty;
-        nothing = ap (λ (l : List Did). given Out l) empty;
+-- A text that is written.
+module _ (name : List ℕ) (f : Form) where
+  text_stands : (reads : List Did) (r : ReadsSpec reads) (source : List ℕ) (g : GivesSource source reads) (rest : List Did) → HasPrinted source f rest
+      → Stands (Some (command.Write name f)) ending.Done (seen (Opened Spec name ∷ (reads ++ rest)))
+  text_stands reads r source g rest p =
+      let part = Opened Spec name ∷ (reads ++ rest) in
+      let begins : Begins (given Out rest) p.text = record { rest = []; is = sym p.whole ∙ sym (append-nil (given Out rest)) } in
+      let given_is : given Out part ≡ p.text = given_after Out (Opened Spec name ∷ reads) rest (front_no_gift name reads r Out) ∙ p.whole in
+      let prints : Prints source f rest = record { text = p.text; is = p.is; writes = p.writes; some = begins } in
+      record {
+        holds = (refl, of_text name f reads r source g rest prints (λ text. given Out part ≡ text) given_is);
+        opens = front_openings name reads r rest ∙ ap (λ (l : List (Slot × List ℕ)). (Spec, name) ∷ l) (openings_none rest (gifts_transfer Out rest p.writes.gifts));
+        whole = (whole_now name reads r source g rest (gifts_read_none Out Spec rest p.writes.gifts), tt);
+        silent = λ is. never is;
       }
-  run_ends by _ (asked_ends name task is (whole_ends reads rest source r g e)) = source_ends name task is reads source r g by rest e
-  run_ends by part (sampled a is nothing e) = alone_ends by.ending part a is e
 
-  -- and what is told before its line
-  pub run_told_before : (by : Ended) (part : List Did) → WordsEnd words by part → IsToldBefore words by.ending part by.statistics
-  run_told_before by part (words_refused is nothing none empty) = unasked (ap (λ (r : Option Request). tells_of (option_and_then with_spec r)) none) nothing
-  run_told_before by _ (asked_ends name task is (whole_ends reads rest source r g e)) = source_before name task is reads source r g by rest e
-  run_told_before by part (sampled a is nothing e) = unasked (alone_unasked (requested words) a is) nothing
+  written_stands : (reads : List Did) (r : ReadsSpec reads) (source : List ℕ) (g : GivesSource source reads) (by : Ended) (rest : List Did)
+      → SourceEnds source (HasWritten source f by) by rest → Stands (Some (command.Write name f)) by.ending (seen (Opened Spec name ∷ (reads ++ rest)))
+  written_stands reads r source g by rest (spec_refused {fault} same nothing refused none) =
+      refused_stands (command.Write name f) name refl (λ fault x is. is) reads r source g by fault rest same refused none
+  written_stands reads r source g by rest (compiled_ends h) =
+      subst (λ (b : Ending). Stands (Some (command.Write name f)) b (seen (Opened Spec name ∷ (reads ++ rest)))) (sym h.ending) (text_stands reads r source g rest h.printed)
 
+  written_before : (x : Seen) (source : List ℕ) (by : Ended) (rest : List Did) → SourceEnds source (HasWritten source f by) by rest
+      → IsToldBefore (Some (command.Write name f)) by.ending x by.statistics
+  written_before x source by rest (spec_refused same nothing refused none) = unasked refl nothing
+  written_before x source by rest (compiled_ends h) = unasked refl h.statistics
+
+-- A run over a trace.
+module _ (r : Run) where
+  abbrev HasEnded : Ending → Seen → Type 0
+  HasEnded by x = OfSource x (λ items s. OfEnding by (λ how. WatchEndsAsMeant items s (options_of r) how x))
+
+  run_stands : (how : RunEnding) (x : Seen) → HasEnded (ending_of how) x → x.opened ≡ (Spec, r.spec) ∷ (Trace, r.trace) ∷ [] → HasWhole Spec x
+      → Stands (Some (command.Run r)) (ending_of how) x
+  run_stands run.Done x holds opens whole = record { holds = holds; opens = opens; whole = (whole, tt); silent = λ is. never is }
+  run_stands (run.Trace fault) x holds opens whole = record { holds = holds; opens = opens; whole = (whole, tt); silent = λ is. never is }
+  run_stands (run.Fault t k p) x holds opens whole = record { holds = holds; opens = opens; whole = (whole, tt); silent = λ is. never is }
+  run_stands (run.Limit n t) x holds opens whole = record { holds = holds; opens = opens; whole = (whole, tt); silent = λ is. never is }
+
+  module _ (reads : List Did) (read : ReadsSpec reads) (source : List ℕ) (g : GivesSource source reads) (items : List tree.Item) (s : System) (c : Compiles source items s) (ran : Ran) (by : Ended) (by_is : by.ending ≡ ending_of ran.ending) where
+    abbrev all : List Did → List Did
+    all rest = Opened Spec r.spec ∷ (reads ++ rest)
+
+    no_spec_in : (part : List Did) → Watched s (options_of r) part → Each (IsNoRead Spec) (Opened Trace r.trace ∷ part)
+    no_spec_in part w = (tt, each_work (IsNoRead Spec) (λ bytes short. refl) (λ bytes. tt) refl tt part w.work)
+
+    monitored_stands : (rest : List Did) → SystemEnds r.trace s (options_of r) r.stats ran rest → Stands (Some (command.Run r)) by.ending (seen (Opened Spec r.spec ∷ (reads ++ rest)))
+    monitored_stands _ (ends state part taken_plan w e told_is) =
+        let rest = Opened Trace r.trace ∷ part in
+        let x = seen (all rest) in
+        let moves = each_work IsTransfer (λ bytes short. tt) (λ bytes. tt) tt tt part w.work in
+        subst (λ (b : Ending). Stands (Some (command.Run r)) b x) (sym by_is)
+        (run_stands ran.ending x
+        (of_source r reads read source g items s c rest (λ items s. OfEnding (ending_of ran.ending) (λ how. WatchEndsAsMeant items s (options_of r) how x)) (no_spec_in part w)
+        record { how = ran.ending; by_is = refl; holds = ends_after r reads read source g items s c state ran.ending part e })
+        (front_openings r.spec reads read rest ∙ ap (λ (l : List (Slot × List ℕ)). (Spec, r.spec) ∷ ((Trace, r.trace) ∷ l)) (openings_none part moves))
+        (whole_now r.spec reads read source g rest (no_spec_in part w)))
+
+    -- what is told of the updates, with statistics or without
+    monitored_before : (stats : Bool) → r.stats ≡ stats → (rest : List Did) → SystemEnds r.trace s (options_of r) r.stats ran rest → by.statistics ≡ ran.statistics
+        → IsToldBefore (Some (command.Run r)) by.ending (seen (Opened Spec r.spec ∷ (reads ++ rest))) by.statistics
+    monitored_before false is _ (ends state part taken_plan w e told_is) by_told = unasked is (by_told ∙ told_is ∙ ap (counted_text s state) is)
+    monitored_before true is _ (ends state part taken_plan w e told_is) by_told =
+        let rest = Opened Trace r.trace ∷ part in
+        let x = seen (all rest) in
+        counted r refl is
+        (of_source r reads read source g items s c rest (λ items s. OfEnding by.ending (λ how. AreStatistics s (options_of r) (x.taken Trace) (x.ended Trace) how by.statistics)) (no_spec_in part w)
+        record { how = ran.ending; by_is = by_is; holds = statistics_after r reads read source g items s c state taken_plan ran.ending part by.statistics e (by_told ∙ told_is ∙ ap (counted_text s state) is) })
+
+  trace_stands : (reads : List Did) (read : ReadsSpec reads) (source : List ℕ) (g : GivesSource source reads) (by : Ended) (rest : List Did)
+      → SourceEnds source (HasMonitored source r by) by rest → Stands (Some (command.Run r)) by.ending (seen (Opened Spec r.spec ∷ (reads ++ rest)))
+  trace_stands reads read source g by rest (spec_refused {fault} same nothing refused none) =
+      refused_stands (command.Run r) r.spec refl (λ fault x is. is) reads read source g by fault rest same refused none
+  trace_stands reads read source g by rest (compiled_ends h) = monitored_stands reads read source g h.items h.system h.compiles h.ran by h.ending rest h.ends
+
+  not_at_work : (by : Ending) (fault : SpecFault) → by ≡ ending.Spec fault → stage_of by ≡ at_work → ⊥
+  not_at_work by fault same at = absurd (let e : at_program ≡ at_work = sym (ap stage_of same) ∙ at in cc)
+
+  trace_before : (reads : List Did) (read : ReadsSpec reads) (source : List ℕ) (g : GivesSource source reads) (by : Ended) (rest : List Did)
+      → SourceEnds source (HasMonitored source r by) by rest → IsToldBefore (Some (command.Run r)) by.ending (seen (Opened Spec r.spec ∷ (reads ++ rest))) by.statistics
+  trace_before reads read source g by rest (spec_refused {fault} same nothing refused none) = refused_before (not_at_work by.ending fault same) nothing
+  trace_before reads read source g by rest (compiled_ends h) = monitored_before reads read source g h.items h.system h.compiles h.ran by h.ending r.stats refl rest h.ends h.statistics
+
+-- A text that needs no specification of the outside.
+sample_stands : (n : ℕ) (by : Ending) (part : List Did) → AloneIsDone (λ text. text ≡ trace_text n) (λ by. ⊥) by part → Stands (Some (command.Generate n)) by (seen part)
+sample_stands n by part (written done p) = subst (λ (b : Ending). Stands (Some (command.Generate n)) b (seen part)) (sym done) record {
+  holds = (refl, p.whole ∙ p.is);
+  opens = openings_none part (gifts_transfer Out part p.writes.gifts);
+  whole = tt;
+  silent = λ is. never is;
+}
+sample_stands n by part (stopped stops none) = absurd stops
+
+stops_stand : (kind : Workload) (n : ℕ) (by : Ending) → BenchStops kind n by → Stands (Some (command.Bench kind n)) by (seen [])
+stops_stand kind n ending.Done stops = absurd (stops_not_done kind n stops)
+stops_stand kind n ending.Words stops = absurd (stops_not_words kind n stops)
+stops_stand kind n (ending.Spec fault) stops = record { holds = stops; opens = refl; whole = tt; silent = λ is. refl }
+stops_stand kind n (ending.Trace fault) stops = record { holds = (stops, refl); opens = refl; whole = tt; silent = λ is. refl }
+stops_stand kind n (ending.Fault t k p) stops = record { holds = (stops, refl); opens = refl; whole = tt; silent = λ is. refl }
+stops_stand kind n (ending.Limit m t) stops = record { holds = (stops, refl); opens = refl; whole = tt; silent = λ is. refl }
+
+tally_stands : (kind : Workload) (n : ℕ) (by : Ending) (part : List Did) → AloneIsDone (IsTallyText kind n) (BenchStops kind n) by part → Stands (Some (command.Bench kind n)) by (seen part)
+tally_stands kind n by part (written done p) = subst (λ (b : Ending). Stands (Some (command.Bench kind n)) b (seen part)) (sym done) record {
+  holds = subst (IsTallyText kind n) (sym p.whole) p.is;
+  opens = openings_none part (gifts_transfer Out part p.writes.gifts);
+  whole = tt;
+  silent = λ is. never is;
+}
+tally_stands kind n by part (stopped stops none) = subst (λ (l : List Did). Stands (Some (command.Bench kind n)) by (seen l)) (sym none) (stops_stand kind n by stops)
+
+words_stand : (by : Ended) (part : List Did) → WordsRefused by part → Stands None by.ending (seen part)
+words_stand by part w =
+    subst (λ (b : Ending). Stands None b (seen part)) (sym w.ending)
+    (subst (λ (l : List Did). Stands None ending.Words (seen l)) (sym w.nothing) record { holds = refl; opens = refl; whole = tt; silent = λ is. refl })
+
+-- What stands where a command was done, from its parts, and what is told before its line.
+pub asked_stands : (c : Option Command) (by : Ended) (part : List Did) → DoesAllAsked c by part → Stands c by.ending (seen part)
+asked_stands None by part does = words_stand by part does
+asked_stands (Some (command.Write name f)) by _ (whole_ends reads rest source r g e) = written_stands name f reads r source g by rest e
+asked_stands (Some (command.Run r)) by _ (whole_ends reads rest source read g e) = trace_stands r reads read source g by rest e
+asked_stands (Some (command.Generate n)) by part does = sample_stands n by.ending part does.done
+asked_stands (Some (command.Bench kind n)) by part does = tally_stands kind n by.ending part does.done
+
+pub asked_before : (c : Option Command) (by : Ended) (part : List Did) → DoesAllAsked c by part → IsToldBefore c by.ending (seen part) by.statistics
+asked_before None by part does = unasked refl does.statistics
+asked_before (Some (command.Write name f)) by _ (whole_ends reads rest source r g e) = written_before name f (seen (Opened Spec name ∷ (reads ++ rest))) source by rest e
+asked_before (Some (command.Run r)) by _ (whole_ends reads rest source read g e) = trace_before r reads read source g by rest e
+asked_before (Some (command.Generate n)) by part does = unasked refl does.statistics
+asked_before (Some (command.Bench kind n)) by part does = unasked refl does.statistics
+
+module _ (c : Option Command) (unseen : (x : Seen) → NoUpdateIsSeen c x) where
   module _ (part more : List Did) (w : Writes Err more) where
     gifts : Each (IsGift Err) more
     gifts = w.gifts
@@ -190,55 +233,12 @@ module _ (words : List (List ℕ)) where
     no_reads : (from : Slot) → Each (IsNoRead from) more
     no_reads from = gifts_read_none Err from more gifts
 
-    no_out : Each (IsNoGift Out) more
-    no_out = gifts_elsewhere Err Out refl more gifts
-
     moves : Each IsTransfer more
     moves = gifts_transfer Err more gifts
 
-    -- a fact about the run stays
-    of_run_told : (P Q : List tree.Item → System → Options → Type 0) → ((items : List tree.Item) (s : System) (o : Options) → P items s o → Q items s o) → OfRun words part P → OfRun words (part ++ more) Q
-    of_run_told P Q says f = record {
-      name = f.name;
-      trace = f.trace;
-      options = f.options;
-      statistics = f.statistics;
-      asked = f.asked;
-      items = f.items;
-      system = f.system;
-      compiled = subst (λ (l : List ℕ). Compiles l f.items f.system) (sym (taken_before Spec part more (no_reads Spec))) f.compiled;
-      holds = says f.items f.system f.options f.holds;
-    }
-
-    of_print_told : (P Q : List ℕ → Type 0) → ((text : List ℕ) → P text → Q text) → OfPrint words part P → OfPrint words (part ++ more) Q
-    of_print_told P Q says f = record {
-      name = f.name;
-      form = f.form;
-      asked = f.asked;
-      whole = whole_more part more (no_reads Spec) f.whole;
-      text = f.text;
-      is = subst (λ (l : List ℕ). IsTextOf l f.form f.text) (sym (taken_before Spec part more (no_reads Spec))) f.is;
-      holds = says f.text f.holds;
-    }
-
-    of_alone_told : (P Q : List ℕ → Type 0) → ((text : List ℕ) → P text → Q text) → OfAlone words P → OfAlone words Q
-    of_alone_told P Q says f = record { what = f.what; asked = f.asked; text = f.text; is = f.is; holds = says f.text f.holds }
-
-    partly_told : IsPartlyDue words part → IsPartlyDue words (part ++ more)
-    partly_told (inl none) = inl (given_before Out part more no_out ∙ none)
-    partly_told (inr (inr (inr f))) =
-        inr (inr (inr (of_alone_told (λ text. Begins (given Out part) text) (λ text. Begins (given Out (part ++ more)) text) (λ text b. subst (λ (l : List ℕ). Begins l text) (sym (given_before Out part more no_out)) b) f)))
-    partly_told (inr (inr (inl f))) =
-        inr (inr (inl (of_print_told (λ text. Begins (given Out part) text) (λ text. Begins (given Out (part ++ more)) text) (λ text b. subst (λ (l : List ℕ). Begins l text) (sym (given_before Out part more no_out)) b) f)))
-    partly_told (inr (inl f)) = inr (inl (of_run_told (λ items s o. BeginsAsMeant items o part) (λ items s o. BeginsAsMeant items o (part ++ more)) begins f))
-      where
-        begins : (items : List tree.Item) (s : System) (o : Options) → BeginsAsMeant items o part → BeginsAsMeant items o (part ++ more)
-        begins items s o b = record {
-          text = b.text;
-          due = subst (λ (l : List ℕ). IsDueAsMeant items o l (ended Trace (part ++ more)) b.text) (sym (taken_before Trace part more (no_reads Trace)))
-              (subst (λ (e : Bool). IsDueAsMeant items o (taken Trace part) e b.text) (sym (ended_before Trace part more (no_reads Trace))) b.due);
-          begins = subst (λ (l : List ℕ). Begins l b.text) (sym (given_before Out part more no_out)) b.begins;
-        }
+    -- what holds of what the journal shows still holds
+    pub still : (P : Seen → Type 0) → P (seen part) → P (seen (part ++ more))
+    still P holds = subst P (sym (seen_told part more gifts)) holds
 
     -- a write to Err follows, and no other call, so that what held of the calls before holds
     after_writes : (Q : Did → Type 0) (P : List Did → Type 0) → ((did : Did) → IsGift Err did → Q did → ⊥) → AtEntries Q P part → AtEntries Q P (part ++ more)
@@ -251,13 +251,13 @@ module _ (words : List (List ℕ)) where
           (at_weaker IsAny (Each IsDone) (Each (IsNoFailedGift Err)) more (each_more IsDone (IsNoFailedGift Err) (done_no_failed_gift Err)) w.stops);
     }
 
-    pub shows_told : Shows words part → ShowsAlways words (part ++ more)
+    pub shows_told : Shows c part → ShowsAlways c (part ++ more)
     shows_told s = record {
-      opens = subst (λ (l : List (Slot × List ℕ)). (l ≡ []) ⊎ ((name : List ℕ) × (task : Task) × (asked_of words ≡ Some (name, task)) × Begins l (names_of name task))) (sym (openings_before part more moves)) s.opens;
+      opens = subst (λ (l : List (Slot × List ℕ)). Begins l (for_asked (opened_at at_work) c)) (sym (openings_before part more moves)) s.opens;
       makes = creations_before part more moves ∙ s.makes;
-      spec_first = after_writes (IsOpening Trace) HasWhole (λ did gift. transfer_opens_none Trace did (gift_transfer Err did gift)) s.spec_first;
-      trace_last = at_more Trace HasWhole part more s.trace_last (no_reads Trace);
-      writes_last = λ to other. after_writes (IsGift to) (IsAllWhole words) (λ did gift. not_gift to did (gift_elsewhere Err to (same_channel_back Err to ∙ other) did gift)) (s.writes_last to other);
+      spec_first = after_writes (IsOpening Trace) (λ before. HasWhole Spec (seen before)) (λ did gift. transfer_opens_none Trace did (gift_transfer Err did gift)) s.spec_first;
+      trace_last = at_more Trace (λ before. HasWhole Spec (seen before)) part more s.trace_last (no_reads Trace);
+      writes_last = λ to other. after_writes (IsGift to) (λ before. IsAllWhole c (seen before)) (λ did gift. not_gift to did (gift_elsewhere Err to (same_channel_back Err to ∙ other) did gift)) (s.writes_last to other);
       spec_ends = at_more Spec _ part more s.spec_ends (no_reads Spec);
       trace_ends = at_more Trace _ part more s.trace_ends (no_reads Trace);
       limit = at_more Spec _ part more s.limit (no_reads Spec);
@@ -265,81 +265,16 @@ module _ (words : List (List ℕ)) where
       stops = stops_told s.stops s.silent;
       due = at_more Trace _ part more s.due (no_reads Trace);
       goes_on = at_more Trace _ part more s.goes_on (no_reads Trace);
-      partly = partly_told s.partly;
-      unseen = no_update_is_seen words (part ++ more);
+      partly = still (IsPartlyDue c) s.partly;
+      unseen = unseen (seen (part ++ more));
     }
-
-    -- the ending stays
-    ends_told : (by : Ending) → EndsRun words by part → EndsRun words by (part ++ more)
-    ends_told by f =
-        of_run_told (λ items s o. OfEnding by (λ how. WatchEndsAsMeant items s o how part)) (λ items s o. OfEnding by (λ how. WatchEndsAsMeant items s o how (part ++ more)))
-        (λ items s o h. record { how = h.how; by_is = h.by_is; holds = stays items s o h.how h.holds }) f
-      where
-        stays : (items : List tree.Item) (s : System) (o : Options) (how : RunEnding) → WatchEndsAsMeant items s o how part → WatchEndsAsMeant items s o how (part ++ more)
-        stays items s o how w = record {
-          due = subst (λ (l : List ℕ). IsDueAsMeant items o l (ended Trace (part ++ more)) (given Out (part ++ more))) (sym (taken_before Trace part more (no_reads Trace)))
-              (subst (λ (e : Bool). IsDueAsMeant items o (taken Trace part) e (given Out (part ++ more))) (sym (ended_before Trace part more (no_reads Trace)))
-              (subst (λ (l : List ℕ). IsDueAsMeant items o (taken Trace part) (ended Trace part) l) (sym (given_before Out part more no_out)) w.due));
-          ends = subst (λ (l : List ℕ). EndsAsMeant items s o l (ended Trace (part ++ more)) how) (sym (taken_before Trace part more (no_reads Trace)))
-              (subst (λ (e : Bool). EndsAsMeant items s o (taken Trace part) e how) (sym (ended_before Trace part more (no_reads Trace))) w.ends);
-        }
-
-    alone_told : (by : Ending) → AloneEnds words by part → AloneEnds words by (part ++ more)
-    alone_told by f = record {
-      what = f.what;
-      asked = f.asked;
-      stops = f.stops;
-      opens = openings_before part more moves ∙ f.opens;
-      nothing = given_before Out part more no_out ∙ f.nothing;
-    }
-
-    pub run_ends_told : (by : Ending) → RunEnds words by part → RunEnds words by (part ++ more)
-    run_ends_told ending.Done (inl f) = inl (ends_told ending.Done f)
-    run_ends_told ending.Done (inr (inl f)) =
-        inr (inl (of_print_told (λ text. given Out part ≡ text) (λ text. given Out (part ++ more) ≡ text) (λ text all. given_before Out part more no_out ∙ all) f))
-    run_ends_told ending.Done (inr (inr f)) = inr (inr (record {
-      wrote = of_alone_told (λ text. given Out part ≡ text) (λ text. given Out (part ++ more) ≡ text) (λ text all. given_before Out part more no_out ∙ all) f.wrote;
-      opens = openings_before part more moves ∙ f.opens;
-    }))
-    run_ends_told ending.Words f = record { refused = f.refused; opens = openings_before part more moves ∙ f.opens; nothing = given_before Out part more no_out ∙ f.nothing }
-    run_ends_told (ending.Spec fault) (inr f) = inr (alone_told (ending.Spec fault) f)
-    run_ends_told (ending.Spec fault) (inl f) = inl record {
-      name = f.name;
-      task = f.task;
-      asked = f.asked;
-      opens = openings_before part more moves ∙ f.opens;
-      whole = whole_more part more (no_reads Spec) f.whole;
-      refused = subst (λ (l : List ℕ). IsRefusedBy l fault) (sym (taken_before Spec part more (no_reads Spec))) f.refused;
-      nothing = given_before Out part more no_out ∙ f.nothing;
-    }
-    run_ends_told (ending.Trace fault) (inl f) = inl (ends_told (ending.Trace fault) f)
-    run_ends_told (ending.Trace fault) (inr f) = inr (alone_told (ending.Trace fault) f)
-    run_ends_told (ending.Fault t k p) (inl f) = inl (ends_told (ending.Fault t k p) f)
-    run_ends_told (ending.Fault t k p) (inr f) = inr (alone_told (ending.Fault t k p) f)
-    run_ends_told (ending.Limit n t) (inl f) = inl (ends_told (ending.Limit n t) f)
-    run_ends_told (ending.Limit n t) (inr f) = inr (alone_told (ending.Limit n t) f)
-
-    -- what is told before the line stays
-    before_told : (by : Ending) (text : List ℕ) → IsToldBefore words by part text → IsToldBefore words by (part ++ more) text
-    before_told by text (unasked asks nothing) = unasked asks nothing
-    before_told by text (refused_before fault is nothing) = refused_before fault is nothing
-    before_told by text (counted asks f) =
-        counted asks
-        (of_run_told (λ items s o. OfEnding by (λ how. AreStatistics s o (taken Trace part) (ended Trace part) how text))
-        (λ items s o. OfEnding by (λ how. AreStatistics s o (taken Trace (part ++ more)) (ended Trace (part ++ more)) how text))
-        (λ items s o h. record { how = h.how; by_is = h.by_is; holds = stays s o h.how h.holds }) f)
-      where
-        stays : (s : System) (o : Options) (how : RunEnding) → AreStatistics s o (taken Trace part) (ended Trace part) how text → AreStatistics s o (taken Trace (part ++ more)) (ended Trace (part ++ more)) how text
-        stays s o how are =
-            subst (λ (l : List ℕ). AreStatistics s o l (ended Trace (part ++ more)) how text) (sym (taken_before Trace part more (no_reads Trace)))
-            (subst (λ (e : Bool). AreStatistics s o (taken Trace part) e how text) (sym (ended_before Trace part more (no_reads Trace))) are)
 
     -- what Err got
     pub err_told : given Err part ≡ [] → given Err (part ++ more) ≡ given Err more
     err_told none = given-append Err part more ∙ ap (λ (l : List ℕ). l ++ given Err more) none
 
-    module _ (shows : Shows words part) where
-      with_outcome : (before now : Failures) (status : ℕ) → Outcome words before now status (part ++ more) → Concludes words before now status (part ++ more)
+    module _ (shows : Shows c part) where
+      with_outcome : (before now : Failures) (status : ℕ) → Outcome c before now status (part ++ more) → Concludes c before now status (part ++ more)
       with_outcome before now status outcome = record { shows = shows_told shows; outcome = outcome }
 
     -- less of a text
@@ -347,35 +282,35 @@ module _ (words : List (List ℕ)) where
     less_told text none less = subst (λ (l : List ℕ). BeginsStrictly l text) (sym (err_told none)) less
 
   -- A run that was cut short is told: by a failure of the outside, or by memory that ran out.
-  module _ (before mid now : Failures) (status : ℕ) (part more : List Did) (shows : Shows words part) where
-    pub concludes_failure : CallFailed before mid → TellsBroken broken.Outside mid now status more → Concludes words before now status (part ++ more)
+  module _ (before mid now : Failures) (status : ℕ) (part more : List Did) (shows : Shows c part) where
+    pub concludes_failure : CallFailed before mid → TellsBroken broken.Outside mid now status more → Concludes c before now status (part ++ more)
     concludes_failure call (all_of_broken is same gifts whole) =
         with_outcome part more gifts shows before now status (outside is (told_failure (call_and_none before mid now call same) (err_told part more gifts (given_none Err part shows.silent) ∙ whole)))
     concludes_failure call (some_of_broken is write gifts less) =
         with_outcome part more gifts shows before now status (outside is (untold_failure (call_and_write before mid now call write) (less_told part more gifts (broken_line broken.Outside) (given_none Err part shows.silent) less)))
 
-    pub concludes_memory : NoneFailed before mid → TellsBroken broken.Memory mid now status more → Concludes words before now status (part ++ more)
+    pub concludes_memory : NoneFailed before mid → TellsBroken broken.Memory mid now status more → Concludes c before now status (part ++ more)
     concludes_memory none (all_of_broken is same gifts whole) = with_outcome part more gifts shows before now status (memory is (err_told part more gifts (given_none Err part shows.silent) ∙ whole))
     concludes_memory none (some_of_broken is write gifts less) =
         with_outcome part more gifts shows before now status (outside is (untold_memory (none_and_write before mid now none write) (less_told part more gifts (broken_line broken.Memory) (given_none Err part shows.silent) less)))
 
     -- An ending is told.
-    pub concludes_ending : (by : Ended) → NoneFailed before mid → RunEnds words by.ending part → IsToldBefore words by.ending part by.statistics → TellsEnding by mid now status more
-        → Concludes words before now status (part ++ more)
+    pub concludes_ending : (by : Ended) → NoneFailed before mid → Stands c by.ending (seen part) → IsToldBefore c by.ending (seen part) by.statistics → TellsEnding by mid now status more
+        → Concludes c before now status (part ++ more)
     concludes_ending by none held first (all_of_ending is gifts whole) =
         with_outcome part more gifts shows before now status (told by.ending is record {
-          ends = run_ends_told part more gifts by.ending held;
+          stands = still part more gifts (Stands c by.ending) held;
           before = by.statistics;
-          is_before = before_told part more gifts by.ending by.statistics first;
+          is_before = still part more gifts (λ x. IsToldBefore c by.ending x by.statistics) first;
           told = err_told part more gifts (given_none Err part shows.silent) ∙ whole;
         })
     concludes_ending by none held first (some_of_ending is write gifts less) =
-        with_outcome part more gifts shows before now status (outside is (untold_ending (none_and_write before mid now none write) by.ending (run_ends_told part more gifts by.ending held) by.statistics
-        (before_told part more gifts by.ending by.statistics first) (less_told part more gifts (ended_text by) (given_none Err part shows.silent) less)))
+        with_outcome part more gifts shows before now status (outside is (untold_ending (none_and_write before mid now none write) by.ending (still part more gifts (Stands c by.ending) held) by.statistics
+        (still part more gifts (λ x. IsToldBefore c by.ending x by.statistics) first) (less_told part more gifts (ended_text by) (given_none Err part shows.silent) less)))
     concludes_ending by none held first (no_text tells) = concludes_memory none tells
 
-  pub concludes_broken : (by : Broken) (before mid now : Failures) (status : ℕ) (part more : List Did) → (by ≡ broken.Outside → CallFailed before mid) → (by ≡ broken.Memory → NoneFailed before mid) → Shows words part
-      → TellsBroken by mid now status more → Concludes words before now status (part ++ more)
+  pub concludes_broken : (by : Broken) (before mid now : Failures) (status : ℕ) (part more : List Did) → (by ≡ broken.Outside → CallFailed before mid) → (by ≡ broken.Memory → NoneFailed before mid) → Shows c part
+      → TellsBroken by mid now status more → Concludes c before now status (part ++ more)
   concludes_broken broken.Outside before mid now status part more call none shows tells = concludes_failure before mid now status part more shows (call refl) tells
   concludes_broken broken.Memory before mid now status part more call none shows tells = concludes_memory before mid now status part more shows (none refl) tells
 
@@ -407,95 +342,19 @@ no_five (ending.Trace fault) is = absurd (omega arith)
 no_five (ending.Fault t k p) is = absurd (omega arith)
 no_five (ending.Limit n t) is = absurd (omega arith)
 
-five_of : (words : List (List ℕ)) (before now : Failures) (status : ℕ) (part : List Did) → status ≡ 5 → Outcome words before now status part → TellsFailure words before now part
-five_of words before now status part five (told by is held) = absurd (no_five by (sym five ∙ is))
-five_of words before now status part five (outside is some) = some
-five_of words before now status part five (memory is tells) = absurd (omega arith)
+five_of : (c : Option Command) (before now : Failures) (status : ℕ) (part : List Did) → status ≡ 5 → Outcome c before now status part → TellsFailure c before now part
+five_of c before now status part five (told by is held) = absurd (no_five by (sym five ∙ is))
+five_of c before now status part five (outside is some) = some
+five_of c before now status part five (memory is tells) = absurd (omega arith)
 
-pub tells_failure : (words : List (List ℕ)) (before now : Failures) (status : ℕ) (part : List Did) → status ≡ 5 → Concludes words before now status part → TellsFailure words before now part
-tells_failure words before now status part five c = five_of words before now status part five c.outcome
+pub tells_failure : (c : Option Command) (before now : Failures) (status : ℕ) (part : List Did) → status ≡ 5 → Concludes c before now status part → TellsFailure c before now part
+tells_failure c before now status part five says = five_of c before now status part five says.outcome
 
--- status 1 is that of a fault alone
-fault_of : (words : List (List ℕ)) (by : Ending) (part : List Did) → 1 ≡ status_of by → Ends words by part → Faulted words part
-fault_of words (ending.Fault t k p) part is held = record { time = t; kind = k; place = p; ends = held }
-fault_of words ending.Done part is held = absurd (omega arith)
-fault_of words ending.Words part is held = absurd (omega arith)
-fault_of words (ending.Spec fault) part is held = absurd (omega arith)
-fault_of words (ending.Trace fault) part is held = absurd (omega arith)
-fault_of words (ending.Limit n t) part is held = absurd (omega arith)
-
-one_of : (words : List (List ℕ)) (before now : Failures) (status : ℕ) (part : List Did) → status ≡ 1 → Outcome words before now status part → Faulted words part
-one_of words before now status part one (told by is held) = fault_of words by part (sym one ∙ is) held
-one_of words before now status part one (outside is some) = absurd (omega arith)
-one_of words before now status part one (memory is tells) = absurd (omega arith)
-
-pub is_faulted : (words : List (List ℕ)) (before now : Failures) (status : ℕ) (part : List Did) → status ≡ 1 → Concludes words before now status part → Faulted words part
-is_faulted words before now status part one c = one_of words before now status part one c.outcome
-
--- status 0 is that of a run to its end alone
-done_of : (words : List (List ℕ)) (by : Ending) (part : List Did) → 0 ≡ status_of by → Ends words by part → Ends words ending.Done part
-done_of words ending.Done part is held = held
-done_of words ending.Words part is held = absurd (omega arith)
-done_of words (ending.Spec fault) part is held = absurd (omega arith)
-done_of words (ending.Trace fault) part is held = absurd (omega arith)
-done_of words (ending.Fault t k p) part is held = absurd (omega arith)
-done_of words (ending.Limit n t) part is held = absurd (omega arith)
-
-pub is_done : (words : List (List ℕ)) (before now : Failures) (status : ℕ) (part : List Did) → status ≡ 0 → Concludes words before now status part → Ends words ending.Done part
-is_done words before now status part none c = go c.outcome
+-- each other status is that of an ending
+pub ends_with : (c : Option Command) (before now : Failures) (status : ℕ) (part : List Did) → (status ≡ 5 → ⊥) → (status ≡ 6 → ⊥) → Concludes c before now status part → EndsWith c status part
+ends_with c before now status part not_outside not_memory says = go says.outcome
   where
-    go : Outcome words before now status part → Ends words ending.Done part
-    go (told by is held) = done_of words by part (sym none ∙ is) held
-    go (outside is some) = absurd (omega arith)
-    go (memory is tells) = absurd (omega arith)
-
--- status 4 is that of a refused line alone
-line_of : (words : List (List ℕ)) (by : Ending) (part : List Did) → 4 ≡ status_of by → Ends words by part → LineRefused words part
-line_of words (ending.Trace fault) part is held = record { fault = fault; ends = held }
-line_of words ending.Done part is held = absurd (omega arith)
-line_of words ending.Words part is held = absurd (omega arith)
-line_of words (ending.Spec fault) part is held = absurd (omega arith)
-line_of words (ending.Fault t k p) part is held = absurd (omega arith)
-line_of words (ending.Limit n t) part is held = absurd (omega arith)
-
-pub is_line : (words : List (List ℕ)) (before now : Failures) (status : ℕ) (part : List Did) → status ≡ 4 → Concludes words before now status part → LineRefused words part
-is_line words before now status part same c = go c.outcome
-  where
-    go : Outcome words before now status part → LineRefused words part
-    go (told by is held) = line_of words by part (sym same ∙ is) held
-    go (outside is some) = absurd (omega arith)
-    go (memory is tells) = absurd (omega arith)
-
--- status 7 is that of the limit of instants alone
-limit_of : (words : List (List ℕ)) (by : Ending) (part : List Did) → 7 ≡ status_of by → Ends words by part → Limited words part
-limit_of words (ending.Limit n t) part is held = record { count = n; time = t; ends = held }
-limit_of words ending.Done part is held = absurd (omega arith)
-limit_of words ending.Words part is held = absurd (omega arith)
-limit_of words (ending.Spec fault) part is held = absurd (omega arith)
-limit_of words (ending.Trace fault) part is held = absurd (omega arith)
-limit_of words (ending.Fault t k p) part is held = absurd (omega arith)
-
-pub is_limit : (words : List (List ℕ)) (before now : Failures) (status : ℕ) (part : List Did) → status ≡ 7 → Concludes words before now status part → Limited words part
-is_limit words before now status part same c = go c.outcome
-  where
-    go : Outcome words before now status part → Limited words part
-    go (told by is held) = limit_of words by part (sym same ∙ is) held
-    go (outside is some) = absurd (omega arith)
-    go (memory is tells) = absurd (omega arith)
-
--- status 3 is that of a refused specification alone
-refused_of : (words : List (List ℕ)) (by : Ending) (part : List Did) → 3 ≡ status_of by → Ends words by part → Refused words part
-refused_of words (ending.Spec fault) part is held = record { fault = fault; ends = held }
-refused_of words ending.Done part is held = absurd (omega arith)
-refused_of words ending.Words part is held = absurd (omega arith)
-refused_of words (ending.Trace fault) part is held = absurd (omega arith)
-refused_of words (ending.Fault t k p) part is held = absurd (omega arith)
-refused_of words (ending.Limit n t) part is held = absurd (omega arith)
-
-pub is_refused : (words : List (List ℕ)) (before now : Failures) (status : ℕ) (part : List Did) → status ≡ 3 → Concludes words before now status part → Refused words part
-is_refused words before now status part same c = go c.outcome
-  where
-    go : Outcome words before now status part → Refused words part
-    go (told by is held) = refused_of words by part (sym same ∙ is) held
-    go (outside is some) = absurd (omega arith)
-    go (memory is tells) = absurd (omega arith)
+    go : Outcome c before now status part → EndsWith c status part
+    go (told by is held) = (by, is, held)
+    go (outside is some) = absurd (not_outside is)
+    go (memory is tells) = absurd (not_memory is)

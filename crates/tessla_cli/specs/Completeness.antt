@@ -1,48 +1,36 @@
 -- COMPLETENESS: what nothing stands against is done whole, unless the outside failed or memory ran out.
-use Rattle.std.specs.Prelude.{◌≡◌, ◌⊎◌, ℕ, ⊤, Bool, true, List, Some}
-use Rattle.flat_core.specs.System.{System}
-use Rattle.spec_compiler.specs.Compiled.{Compiles}
-use Rattle.syntax_tree.specs.Tree as tree
+use Rattle.std.specs.Prelude.{◌≡◌, ◌⊎◌, ℕ, ⊤, true, List, Option, Some}
+use Rattle.command_words.specs.declared.command.Command.{Command}
+use Rattle.command_words.specs.declared.command.Command.TheVariants as command
 use Rattle.trace_run.specs.Meant.{IsUnhindered}
 use Rattle.tsl_world.specs.Begins.{Begins}
-use Rattle.tsl_world.specs.Journal.{taken, ended}
-use Rattle.tsl_world.specs.declared.outside.Did.{Did}
-use Rattle.tsl_world.specs.declared.outside.Slot.TheVariants.{Spec, Trace}
-use Rattle.tessla_cli.specs.declared.ending.Ending.TheVariants as ending
-use Rattle.tessla_cli.specs.declared.task.Form.{Form}
-use Rattle.tessla_cli.specs.Conduct.{EndsAlone, EndsPrint, EndsRun, OfAlone}
-use Rattle.tessla_cli.specs.Headline.{OfRun}
-use Rattle.tessla_cli.specs.Tasks.{asked_of, print}
+use Rattle.tsl_world.specs.Seen.{Seen}
+use Rattle.tsl_world.specs.declared.outside.Slot.TheVariants.{Trace}
+use Rattle.tessla_cli.specs.Alone.{IsTallyText}
+use Rattle.tessla_cli.specs.Asked.{options_of}
+use Rattle.tessla_cli.specs.Headline.{OfSource}
 
 -- A whole trace of which this much was taken, and all of it where its end was read.
-pub record IsWholeTrace (part : List Did) (whole : List ℕ) : Type 0 where
-  pub begins : Begins (taken Trace part) whole
-  pub ends : ended Trace part ≡ true → whole ≡ taken Trace part
+pub record IsWholeTrace (x : Seen) (whole : List ℕ) : Type 0 where
+  pub begins : Begins (x.taken Trace) whole
+  pub ends : x.ended Trace ≡ true → whole ≡ x.taken Trace
 
--- all is done with status 0, or memory ran out
-abbrev pub IsDoneWith : ℕ → Type 0 → Type 0
-IsDoneWith status P = ((status ≡ 0) × P) ⊎ (status ≡ 6)
+-- Nothing in what was taken stands against what is asked for: the specification is accepted, and nothing in the trace ends a run before
+-- its end; or there is a tally.
+abbrev pub CanEnd : Option Command → Seen → Type 0
+CanEnd (Some (command.Write spec f)) x = OfSource x (λ items s. ⊤)
+CanEnd (Some (command.Run r)) x = OfSource x (λ items s. IsUnhindered items s (options_of r) (x.taken Trace) (x.ended Trace))
+CanEnd (Some (command.Generate n)) x = ⊤
+CanEnd (Some (command.Bench kind n)) x = (text : List ℕ) × IsTallyText kind n text
+CanEnd c x = ⊥
 
-module _ (words : List (List ℕ)) where
-  -- The words ask for a run, the specification is accepted, and nothing in these bytes of a trace ends the run before its end.
-  abbrev pub CanRun : List Did → List ℕ → Bool → Type 0
-  CanRun part bytes ended = OfRun words part (λ items s o. IsUnhindered items s o bytes ended)
+-- nothing stands against a run over a whole trace
+abbrev pub CanRun : Option Command → Seen → List ℕ → Type 0
+CanRun (Some (command.Run r)) x whole = OfSource x (λ items s. IsUnhindered items s (options_of r) whole true)
+CanRun c x whole = ⊥
 
-  -- The words ask for a text of a specification, and it is accepted.
-  pub record CanPrint (part : List Did) : Type 0 where
-    pub name : List ℕ
-    pub form : Form
-    pub asked : asked_of words ≡ Some (name, print form)
-    pub items : List tree.Item
-    pub system : System
-    pub compiled : Compiles (taken Spec part) items system
-
-  -- Nothing stands against a run over a whole trace: then the end of the trace was read, and all of the text that is due of it was given to
-  -- Out. This follows from what was taken of the trace alone, so that a run that stopped in its midst for another cause than the trace was
-  -- out of memory. In the same way all of the text is given that is asked for of a specification, or without one, where there is such a
-  -- text.
-  pub record IsComplete (status : ℕ) (part : List Did) : Type 0 where
-    pub of_run : (whole : List ℕ) → IsWholeTrace part whole → CanRun part whole true → IsDoneWith status (EndsRun words ending.Done part)
-    pub of_taken : CanRun part (taken Trace part) (ended Trace part) → IsDoneWith status (EndsRun words ending.Done part)
-    pub of_print : CanPrint part → IsDoneWith status (EndsPrint words part)
-    pub of_alone : OfAlone words (λ text. ⊤) → IsDoneWith status (EndsAlone words part)
+-- Then the status is 0, whose ending says that all was done, or memory ran out. For a run this follows from what was taken of the trace
+-- alone, so that one that stopped in its midst for another cause than the trace was out of memory.
+pub record IsComplete (c : Option Command) (status : ℕ) (x : Seen) : Type 0 where
+  pub of_taken : CanEnd c x → (status ≡ 0) ⊎ (status ≡ 6)
+  pub of_whole : (whole : List ℕ) → IsWholeTrace x whole → CanRun c x whole → (status ≡ 0) ⊎ (status ≡ 6)

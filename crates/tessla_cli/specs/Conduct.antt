@@ -1,29 +1,25 @@
 -- What the program does to the outside, as the journal of its calls has it.
-use Rattle.std.specs.Prelude.{◌≡◌, ◌⊎◌, ℕ, ◌<◌, ◌≤◌, true, false, List, [], ◌∷◌, length, Some, None}
+use Rattle.std.specs.Prelude.{◌≡◌, ◌⊎◌, ℕ, ◌≤◌, false, List, [], length, Option, Some}
+use Rattle.command_words.specs.declared.command.Command.{Command}
+use Rattle.command_words.specs.declared.command.Command.TheVariants as command
+use Rattle.command_words.specs.declared.command.Form.{Form}
+use Rattle.sample_trace.specs.Trace.{trace_text}
+use Rattle.spec_lexer.specs.declared.limits.TheConstants.{MOST_SOURCE_BYTES}
+use Rattle.trace_reader.specs.declared.limits.TheConstants.{MOST_PIECE_BYTES}
+use Rattle.trace_run.specs.Meant.{GoesOnAsMeant, BeginsAsMeant}
+use Rattle.tsl_world.specs.Begins.{Begins}
 use Rattle.tsl_world.specs.declared.outside.Did.{Did}
 use Rattle.tsl_world.specs.declared.outside.Slot.TheVariants.{Spec, Trace}
 use Rattle.tsl_world.specs.declared.outside.Channel.{Channel}
 use Rattle.tsl_world.specs.declared.outside.Channel.TheVariants.{Out, Err}
-use Rattle.tsl_world.specs.Journal.{same_channel, given, taken, ended, openings, creations, IsDone, IsGift, IsNoFailedGift, IsOpening, IsWithin}
+use Rattle.tsl_world.specs.Journal.{same_channel, taken, openings, creations, IsDone, IsGift, IsNoFailedGift, IsOpening, IsWithin}
 use Rattle.tsl_world.specs.Journal.{AtAll, AtEntries, AtReads, Each}
-use Rattle.spec_reader.specs.declared.fault.SpecFault.{SpecFault}
-use Rattle.spec_compiler.specs.Compiled.{IsRefusedBy}
-use Rattle.tessla_cli.specs.declared.ending.Ending.{Ending}
-use Rattle.tessla_cli.specs.declared.ending.Ending.TheVariants as ending
-use Rattle.tsl_world.specs.Begins.{Begins}
-use Rattle.tessla_cli.specs.Alone.{AloneStops, IsAloneText}
-use Rattle.trace_run.specs.Meant.{GoesOnAsMeant, BeginsAsMeant, WatchEndsAsMeant}
-use Rattle.tessla_cli.specs.Endings.{OfEnding}
-use Rattle.tessla_cli.specs.Headline.{OfRun}
+use Rattle.tsl_world.specs.Seen.{Seen, seen}
+use Rattle.tessla_cli.specs.Alone.{IsTallyText}
+use Rattle.tessla_cli.specs.Asked.{for_asked, options_of}
+use Rattle.tessla_cli.specs.Headline.{OfSource}
 use Rattle.tessla_cli.specs.Printed.{IsTextOf}
-use Rattle.tessla_cli.specs.Tasks.{Alone, Task, alone_of, print, asked_of, names_of, requested}
-use Rattle.tessla_cli.specs.declared.task.Form.{Form}
-use Rattle.trace_reader.specs.declared.limits.TheConstants.{MOST_PIECE_BYTES}
-use Rattle.spec_lexer.specs.declared.limits.TheConstants.{MOST_SOURCE_BYTES}
-
--- the specification was read to its end, or past its limit
-abbrev pub HasWhole : List Did → Type 0
-HasWhole journal = (ended Spec journal ≡ true) ⊎ (MOST_SOURCE_BYTES < length (taken Spec journal))
+use Rattle.tessla_cli.specs.Stages.{AreWhole, HasWhole, at_work, opened_at, whole_at}
 
 -- Nothing is made.
 abbrev pub MakesNothing : List Did → Type 0
@@ -31,11 +27,11 @@ MakesNothing part = creations part ≡ []
 
 -- The trace is opened only after the whole of the specification, or so much of it that it is too long.
 abbrev pub ReadsSpecFirst : List Did → Type 0
-ReadsSpecFirst part = AtEntries (IsOpening Trace) HasWhole part
+ReadsSpecFirst part = AtEntries (IsOpening Trace) (λ before. HasWhole Spec (seen before)) part
 
 -- So is the trace read: each read of it stands after the whole of the specification, or so much of it.
 abbrev pub ReadsTraceLast : List Did → Type 0
-ReadsTraceLast part = AtReads Trace HasWhole part
+ReadsTraceLast part = AtReads Trace (λ before. HasWhole Spec (seen before)) part
 
 -- No read of the specification follows once more of it was taken than it may have.
 abbrev pub StopsAtLimit : List Did → Type 0
@@ -50,92 +46,43 @@ pub record StopsAtFailures (part : List Did) : Type 0 where
   pub silent : AtEntries (λ did. IsGift Err did → ⊥) (Each IsDone) part
   pub last : AtAll (Each (IsNoFailedGift Err)) part
 
-module _ (words : List (List ℕ)) where
+-- A fact about the text that the specification has in a form. It was read whole.
+pub record OfText (f : Form) (x : Seen) (P : List ℕ → Type 0) : Type 0 where
+  pub whole : HasWhole Spec x
+  pub text : List ℕ
+  pub is : IsTextOf (x.taken Spec) f text
+  pub holds : P text
+
+module _ (c : Option Command) where
   -- Nothing is opened but what the words ask for, the specification and then the trace, each once and each whether it could be opened or
   -- not.
   abbrev pub OpensAsAsked : List Did → Type 0
-  OpensAsAsked part = (openings part ≡ [])
-      ⊎ ((name : List ℕ) × (task : Task) × (asked_of words ≡ Some (name, task)) × Begins (openings part) (names_of name task))
+  OpensAsAsked part = Begins (openings part) (for_asked (opened_at at_work) c)
 
   -- What the words ask to read whole first was read whole: the specification, where they name one.
-  abbrev pub IsAllWhole : List Did → Type 0
-  IsAllWhole before = (name : List ℕ) (task : Task) → asked_of words ≡ Some (name, task) → HasWhole before
+  abbrev pub IsAllWhole : Seen → Type 0
+  IsAllWhole x = AreWhole (for_asked (whole_at at_work) c) x
 
   -- Only then is anything given to a channel other than Err.
   abbrev pub WritesLast : List Did → Type 0
-  WritesLast part = (to : Channel) → same_channel to Err ≡ false → AtEntries (IsGift to) IsAllWhole part
+  WritesLast part = (to : Channel) → same_channel to Err ≡ false → AtEntries (IsGift to) (λ before. IsAllWhole (seen before)) part
 
-  -- No read of the trace follows once the bytes taken hold a refused line, close a fault or pass the limit of instants.
-  abbrev pub GoesOnAtReads : List Did → Type 0
-  GoesOnAtReads part = AtReads Trace (λ before. OfRun words before (λ items s o. GoesOnAsMeant items o (taken Trace before))) part
+-- No read of the trace follows once the bytes taken hold a refused line, close a fault or pass the limit of instants.
+abbrev pub GoesOnAtRead : Option Command → Seen → Type 0
+GoesOnAtRead (Some (command.Run r)) x = OfSource x (λ items s. GoesOnAsMeant items (options_of r) (x.taken Trace))
+GoesOnAtRead c x = ⊥
 
-  -- A fact about the text that the words ask to print, of the specification, which was read whole.
-  pub record OfPrint (journal : List Did) (P : List ℕ → Type 0) : Type 0 where
-    pub name : List ℕ
-    pub form : Form
-    pub asked : asked_of words ≡ Some (name, print form)
-    pub whole : HasWhole journal
-    pub text : List ℕ
-    pub is : IsTextOf (taken Spec journal) form text
-    pub holds : P text
+abbrev pub GoesOnAtReads : Option Command → List Did → Type 0
+GoesOnAtReads c part = AtReads Trace (λ before. GoesOnAtRead c (seen before)) part
 
-  -- A fact about the text that the words ask for without a specification of the outside.
-  pub record OfAlone (P : List ℕ → Type 0) : Type 0 where
-    pub what : Alone
-    pub asked : alone_of words ≡ Some what
-    pub text : List ℕ
-    pub is : IsAloneText what text
-    pub holds : P text
+-- What Out was given begins the text that the words ask to write, or that is due of all that was taken of the trace.
+abbrev pub BeginsOut : Option Command → Seen → Type 0
+BeginsOut (Some (command.Write spec f)) x = OfText f x (λ text. Begins (x.given Out) text)
+BeginsOut (Some (command.Run r)) x = OfSource x (λ items s. BeginsAsMeant items (options_of r) x)
+BeginsOut (Some (command.Generate n)) x = Begins (x.given Out) (trace_text n)
+BeginsOut (Some (command.Bench kind n)) x = (text : List ℕ) × IsTallyText kind n text × Begins (x.given Out) text
+BeginsOut c x = ⊥
 
-  -- Whatever ends the program, what Out was given is nothing, or begins the text that is due of all that was taken of the trace or that
-  -- the words ask to print, of a specification or without one.
-  abbrev pub IsPartlyDue : List Did → Type 0
-  IsPartlyDue part =
-      (given Out part ≡ [])
-      ⊎ OfRun words part (λ items s o. BeginsAsMeant items o part)
-      ⊎ OfPrint part (λ text. Begins (given Out part) text)
-      ⊎ OfAlone (λ text. Begins (given Out part) text)
-
-  -- All the text that is due of what was taken was given to Out, and this is the cause of the ending.
-  abbrev pub EndsRun : Ending → List Did → Type 0
-  EndsRun by part = OfRun words part (λ items s o. OfEnding by (λ how. WatchEndsAsMeant items s o how part))
-
-  -- All of the text that the words ask to print was given to Out.
-  abbrev pub EndsPrint : List Did → Type 0
-  EndsPrint part = OfPrint part (λ text. given Out part ≡ text)
-
-  -- All of the text was given to Out that the words ask for without a specification of the outside, and nothing was opened.
-  pub record EndsAlone (part : List Did) : Type 0 where
-    pub wrote : OfAlone (λ text. given Out part ≡ text)
-    pub opens : openings part ≡ []
-
-  -- There is none of it, with this ending, and nothing was opened.
-  pub record AloneEnds (by : Ending) (part : List Did) : Type 0 where
-    pub what : Alone
-    pub asked : alone_of words ≡ Some what
-    pub stops : AloneStops what by
-    pub opens : openings part ≡ []
-    pub nothing : given Out part ≡ []
-
-  -- The specification that the words name was read to its end or past its limit, and it is refused. The trace is not opened.
-  pub record SpecRefused (fault : SpecFault) (part : List Did) : Type 0 where
-    pub name : List ℕ
-    pub task : Task
-    pub asked : asked_of words ≡ Some (name, task)
-    pub opens : openings part ≡ (Spec, name) ∷ []
-    pub whole : HasWhole part
-    pub refused : IsRefusedBy (taken Spec part) fault
-    pub nothing : given Out part ≡ []
-
-  -- The words are not accepted, and nothing was opened.
-  pub record WordsRefused (part : List Did) : Type 0 where
-    pub refused : requested words ≡ None
-    pub opens : openings part ≡ []
-    pub nothing : given Out part ≡ []
-
-  -- what stands where the program ends so
-  abbrev pub RunEnds : Ending → List Did → Type 0
-  RunEnds ending.Done part = EndsRun ending.Done part ⊎ EndsPrint part ⊎ EndsAlone part
-  RunEnds ending.Words part = WordsRefused part
-  RunEnds (ending.Spec fault) part = SpecRefused fault part ⊎ AloneEnds (ending.Spec fault) part
-  RunEnds by part = EndsRun by part ⊎ AloneEnds by part
+-- Whatever ends the program, this holds of what Out was given, or it is nothing.
+abbrev pub IsPartlyDue : Option Command → Seen → Type 0
+IsPartlyDue c x = (x.given Out ≡ []) ⊎ BeginsOut c x

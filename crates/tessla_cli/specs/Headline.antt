@@ -1,45 +1,41 @@
 -- THE HEADLINE: before each read of the trace, the bytes given to Out are the text of the output events that the specification means
 -- for the bytes of the trace that were taken before. It is due for the times that these bytes close, up to the first fault and within
 -- the limit of instants.
-use Rattle.std.specs.Prelude.{◌≡◌, ℕ, Bool, false, List, Some}
+use Rattle.std.specs.Prelude.{ℕ, false, List, Option, Some}
+use Rattle.command_words.specs.declared.command.Command.{Command}
+use Rattle.command_words.specs.declared.command.Command.TheVariants as command
 use Rattle.type_rules.specs.Kinds.{Kinds}
 use Rattle.flat_core.specs.System.{System}
 use Rattle.spec_compiler.specs.Compiled.{Compiles}
 use Rattle.spec_reader.specs.Source.{Specifies}
 use Rattle.syntax_tree.specs.Tree as tree
-use Rattle.trace_monitor.specs.declared.options.Options.{Options}
-use Rattle.tsl_world.specs.Journal.{given, taken, AtReads}
+use Rattle.tsl_world.specs.Journal.{AtReads}
 use Rattle.tsl_world.specs.declared.outside.Channel.TheVariants.{Out}
 use Rattle.tsl_world.specs.declared.outside.Did.{Did}
 use Rattle.tsl_world.specs.declared.outside.Slot.TheVariants.{Spec, Trace}
+use Rattle.tsl_world.specs.Seen.{Seen, seen}
 use Rattle.trace_run.specs.Meant.{IsDueAsMeant}
-use Rattle.tessla_cli.specs.Tasks.{monitor, asked_of}
+use Rattle.tessla_cli.specs.Asked.{options_of}
 
-module _ (words : List (List ℕ)) where
-  -- A fact about the items that the specification spells, as far as it was taken, and about how far the run goes that the words ask for.
-  pub record OfItems (journal : List Did) (P : List tree.Item → Options → Type 0) : Type 0 where
-    pub name : List ℕ
-    pub trace : List ℕ
-    pub options : Options
-    pub statistics : Bool
-    pub asked : asked_of words ≡ Some (name, monitor trace options statistics)
-    pub items : List tree.Item
-    pub kinds : Kinds
-    pub specifies : Specifies (taken Spec journal) items kinds
-    pub holds : P items options
+-- a fact about the items that the specification spells, as far as it was taken
+pub record OfItems (x : Seen) (P : List tree.Item → Type 0) : Type 0 where
+  pub items : List tree.Item
+  pub kinds : Kinds
+  pub specifies : Specifies (x.taken Spec) items kinds
+  pub holds : P items
 
-  -- The same, and about the flat system of the items once it is simplified.
-  pub record OfRun (journal : List Did) (P : List tree.Item → System → Options → Type 0) : Type 0 where
-    pub name : List ℕ
-    pub trace : List ℕ
-    pub options : Options
-    pub statistics : Bool
-    pub asked : asked_of words ≡ Some (name, monitor trace options statistics)
-    pub items : List tree.Item
-    pub system : System
-    pub compiled : Compiles (taken Spec journal) items system
-    pub holds : P items system options
+-- the same, and about the flat system of the items once it is simplified
+pub record OfSource (x : Seen) (P : List tree.Item → System → Type 0) : Type 0 where
+  pub items : List tree.Item
+  pub system : System
+  pub compiled : Compiles (x.taken Spec) items system
+  pub holds : P items system
 
-  -- Nothing here speaks of a flat system. That the items can be run as well, `GoesOnAtReads` says at the same reads.
-  abbrev pub IsDueAtReads : List Did → Type 0
-  IsDueAtReads part = AtReads Trace (λ before. OfItems before (λ items o. IsDueAsMeant items o (taken Trace before) false (given Out before))) part
+-- Only a run reads a trace. Nothing here speaks of a flat system. That the items can be run as well, `GoesOnAtReads` says at the same
+-- reads.
+abbrev pub IsDueAtRead : Option Command → Seen → Type 0
+IsDueAtRead (Some (command.Run r)) x = OfItems x (λ items. IsDueAsMeant items (options_of r) (x.taken Trace) false (x.given Out))
+IsDueAtRead c x = ⊥
+
+abbrev pub IsDueAtReads : Option Command → List Did → Type 0
+IsDueAtReads c part = AtReads Trace (λ before. IsDueAtRead c (seen before)) part

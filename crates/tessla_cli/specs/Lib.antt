@@ -1,4 +1,5 @@
-pub mod Tasks
+pub mod Asked
+pub mod Stages
 pub mod Endings
 pub mod Printed
 pub mod Messages
@@ -6,6 +7,7 @@ pub mod Alone
 pub mod Headline
 pub mod Failures
 pub mod Conduct
+pub mod Causes
 pub mod Outcome
 pub mod Completeness
 pub mod Unseen

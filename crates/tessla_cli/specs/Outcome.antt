@@ -1,28 +1,29 @@
 -- What stands for each status of the program.
-use Rattle.std.specs.Prelude.{◌≡◌, ◌⊎◌, ℕ, true, false, List, [], ◌++◌}
-use Rattle.lift_func.specs.declared.fault.FaultKind.{FaultKind}
-use Rattle.trace_reader.specs.declared.fault.TraceFault.{TraceFault}
-use Rattle.spec_reader.specs.declared.fault.SpecFault.{SpecFault}
+use Rattle.std.specs.Prelude.{◌≡◌, ◌⊎◌, ℕ, true, false, List, [], ◌++◌, Option, Some}
+use Rattle.command_words.specs.declared.command.Command.{Command}
+use Rattle.command_words.specs.declared.command.Command.TheVariants as command
+use Rattle.command_words.specs.declared.command.Run.{Run}
 use Rattle.trace_run.specs.Effects.{Writes}
 use Rattle.trace_run.specs.Statistics.{AreStatistics}
-use Rattle.tsl_value.specs.declared.place.Place.{Place}
+use Rattle.trace_run.specs.declared.broken.Broken.{Broken}
+use Rattle.trace_run.specs.declared.broken.Broken.TheVariants as broken
 use Rattle.tsl_world.specs.Begins.{BeginsStrictly}
 use Rattle.tsl_world.specs.declared.outside.Did.{Did}
 use Rattle.tsl_world.specs.declared.outside.Slot.TheVariants.{Spec, Trace}
 use Rattle.tsl_world.specs.declared.outside.Channel.TheVariants.{Err}
-use Rattle.tsl_world.specs.Journal.{given, taken, ended, StopsAtEnd}
+use Rattle.tsl_world.specs.Journal.{given, StopsAtEnd}
+use Rattle.tsl_world.specs.Seen.{Seen, seen}
 use Rattle.tessla_cli.specs.declared.ending.Ended.{Ended}
 use Rattle.tessla_cli.specs.declared.ending.Ending.{Ending}
-use Rattle.tessla_cli.specs.declared.ending.Ending.TheVariants as ending
-use Rattle.trace_run.specs.declared.broken.Broken.{Broken}
-use Rattle.trace_run.specs.declared.broken.Broken.TheVariants as broken
+use Rattle.tessla_cli.specs.Asked.{asks_statistics, options_of}
+use Rattle.tessla_cli.specs.Causes.{Cause, Stands}
 use Rattle.tessla_cli.specs.Conduct.{OpensAsAsked, MakesNothing, ReadsSpecFirst, ReadsTraceLast, StopsAtLimit, ReadsPieces, GoesOnAtReads}
-use Rattle.tessla_cli.specs.Conduct.{IsPartlyDue, RunEnds, StopsAtFailures, WritesLast}
+use Rattle.tessla_cli.specs.Conduct.{IsPartlyDue, StopsAtFailures, WritesLast}
 use Rattle.tessla_cli.specs.Endings.{OfEnding}
 use Rattle.tessla_cli.specs.Failures.{Failures, NoneFailed, CallFailed, WriteFailed, BothFailed}
-use Rattle.tessla_cli.specs.Headline.{IsDueAtReads, OfRun}
+use Rattle.tessla_cli.specs.Headline.{IsDueAtReads, OfSource}
 use Rattle.tessla_cli.specs.Messages.{ended_text, ending_line, broken_line, broken_status, status_of}
-use Rattle.tessla_cli.specs.Tasks.{asks_statistics}
+use Rattle.tessla_cli.specs.Stages.{at_work, stage_of}
 use Rattle.tessla_cli.specs.Unseen.{NoUpdateIsSeen}
 
 -- this is what was given to Err
@@ -43,52 +44,34 @@ pub data TellsEnding (by : Ended) (before now : Failures) (status : ℕ) (part :
       → TellsEnding by before now status part
   no_text : TellsBroken broken.Memory before now status part → TellsEnding by before now status part
 
-module _ (words : List (List ℕ)) where
-  -- This is told before the line of an ending: the statistics of a run that was asked for them. Nothing is told where they are not asked
-  -- for, and of a specification that is refused.
-  pub data IsToldBefore (by : Ending) (part : List Did) (text : List ℕ) : Type 0 where
-    unasked : asks_statistics words ≡ false → text ≡ [] → IsToldBefore by part text
-    refused_before : (fault : SpecFault) → by ≡ ending.Spec fault → text ≡ [] → IsToldBefore by part text
-    counted : asks_statistics words ≡ true
-        → OfRun words part (λ items s o. OfEnding by (λ how. AreStatistics s o (taken Trace part) (ended Trace part) how text))
-        → IsToldBefore by part text
+module _ (c : Option Command) where
+  -- This is told before the line of an ending: nothing, or the statistics of a run that was asked for them and did its work.
+  pub data IsToldBefore (by : Ending) (x : Seen) (text : List ℕ) : Type 0 where
+    unasked : asks_statistics c ≡ false → text ≡ [] → IsToldBefore by x text
+    refused_before : (stage_of by ≡ at_work → ⊥) → text ≡ [] → IsToldBefore by x text
+    counted : (r : Run) → c ≡ Some (command.Run r) → r.stats ≡ true
+        → OfSource x (λ items s. OfEnding by (λ how. AreStatistics s (options_of r) (x.taken Trace) (x.ended Trace) how text))
+        → IsToldBefore by x text
 
   -- The program ends so. Err was given what is told before and then the line of the ending, if it has one.
   pub record Ends (by : Ending) (part : List Did) : Type 0 where
-    pub ends : RunEnds words by part
+    pub stands : Stands c by (seen part)
     pub before : List ℕ
-    pub is_before : IsToldBefore by part before
+    pub is_before : IsToldBefore by (seen part) before
     pub told : Tells (before ++ ending_line by) part
 
-  -- Status 1: a fault is closed within the limit of instants.
-  pub record Faulted (part : List Did) : Type 0 where
-    pub time : ℕ
-    pub kind : FaultKind
-    pub place : Place
-    pub ends : Ends (ending.Fault time kind place) part
-
-  -- Status 3: the specification is refused.
-  pub record Refused (part : List Did) : Type 0 where
-    pub fault : SpecFault
-    pub ends : Ends (ending.Spec fault) part
-
-  -- Status 4: a line of the trace is refused, and no fault and no limit came at a time closed before it.
-  pub record LineRefused (part : List Did) : Type 0 where
-    pub fault : TraceFault
-    pub ends : Ends (ending.Trace fault) part
-
-  -- Status 7: one more instant than may be is closed, and none before it has a fault.
-  pub record Limited (part : List Did) : Type 0 where
-    pub count : ℕ
-    pub time : ℕ
-    pub ends : Ends (ending.Limit count time) part
+  -- The program ends with this status, by an ending that has it: 0 where all was done, 1 where a fault is closed within the limit of
+  -- instants, 2 where the words are not accepted, 3 where the specification is refused, 4 where a line of the trace is and no fault and no
+  -- limit came at a time closed before it, 7 where one more instant than may be is closed, and none before it has a fault.
+  abbrev pub EndsWith : ℕ → List Did → Type 0
+  EndsWith status part = (by : Ending) × (status ≡ status_of by) × Ends by part
 
   -- Status 5. A call failed, and Err was given the whole line that tells it. Or a write to Err failed, and Err was given less than the
   -- text of which it was: of what tells an ending, or of the line that tells that memory ran out, or of that line, where a call had failed
   -- before.
   pub data TellsFailure (before now : Failures) (part : List Did) : Type 0 where
     told_failure : CallFailed before now → Tells (broken_line broken.Outside) part → TellsFailure before now part
-    untold_ending : WriteFailed before now → (by : Ending) → RunEnds words by part → (text : List ℕ) → IsToldBefore by part text
+    untold_ending : WriteFailed before now → (by : Ending) → Stands c by (seen part) → (text : List ℕ) → IsToldBefore by (seen part) text
         → BeginsStrictly (given Err part) (text ++ ending_line by) → TellsFailure before now part
     untold_memory : WriteFailed before now → BeginsStrictly (given Err part) (broken_line broken.Memory) → TellsFailure before now part
     untold_failure : BothFailed before now → BeginsStrictly (given Err part) (broken_line broken.Outside) → TellsFailure before now part
@@ -100,25 +83,25 @@ module _ (words : List (List ℕ)) where
     memory : status ≡ 6 → Tells (broken_line broken.Memory) part → Outcome before now status part
 
   -- Exactly where: where an ending has its cause, the status is its own, unless the outside failed or memory ran out.
-  abbrev pub IsExact : ℕ → List Did → Type 0
-  IsExact status part = (by : Ending) → RunEnds words by part → (status ≡ status_of by) ⊎ (status ≡ 5) ⊎ (status ≡ 6)
+  abbrev pub IsExact : ℕ → Seen → Type 0
+  IsExact status x = (by : Ending) → Cause c x by → (status ≡ status_of by) ⊎ (status ≡ 5) ⊎ (status ≡ 6)
 
   -- what every run shows, whatever its status
   pub record ShowsAlways (part : List Did) : Type 0 where
-    pub opens : OpensAsAsked words part
+    pub opens : OpensAsAsked c part
     pub makes : MakesNothing part
     pub spec_first : ReadsSpecFirst part
     pub trace_last : ReadsTraceLast part
-    pub writes_last : WritesLast words part
+    pub writes_last : WritesLast c part
     pub spec_ends : StopsAtEnd Spec part
     pub trace_ends : StopsAtEnd Trace part
     pub limit : StopsAtLimit part
     pub pieces : ReadsPieces part
     pub stops : StopsAtFailures part
-    pub due : IsDueAtReads words part
-    pub goes_on : GoesOnAtReads words part
-    pub partly : IsPartlyDue words part
-    pub unseen : NoUpdateIsSeen words part
+    pub due : IsDueAtReads c part
+    pub goes_on : GoesOnAtReads c part
+    pub partly : IsPartlyDue c (seen part)
+    pub unseen : NoUpdateIsSeen c (seen part)
 
   pub record Concludes (before now : Failures) (status : ℕ) (part : List Did) : Type 0 where
     pub shows : ShowsAlways part

@@ -12,8 +12,8 @@ use Rattle.last_use.specs.Reasons.{AreReasons}
 use Rattle.spec_compiler.specs.Compiled.{Compiles}
 use Rattle.syntax_tree.specs.Tree as tree
 use Rattle.flat_core.specs.Updates.{running_updates}
-use Rattle.tessla_cli.specs.declared.task.Form.{Form}
-use Rattle.tessla_cli.specs.declared.task.Form.TheVariants as form
+use Rattle.command_words.specs.declared.command.Form.{Form}
+use Rattle.command_words.specs.declared.command.Form.TheVariants as form
 
 -- how many equations and how many updates run
 abbrev pub updates_text : ℕ → List ℕ

@@ -3,12 +3,11 @@
 //! `top` has the call `tessla`, with all that is promised of the program. The program, the crate `tessla`, makes it.
 #![tactic(auto)]
 
-mod alone;
+mod bench;
 pub mod ending;
 mod print;
 mod report;
 mod run;
 mod source;
-mod task;
 pub mod tell;
 pub mod top;

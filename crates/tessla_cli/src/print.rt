@@ -8,8 +8,8 @@ ghost use Rattle.register_code.specs.Text.{code_text};
 ghost use Rattle.tessla_cli.specs.Printed.{HasText, check_text, counts_text, updates_text};
 ghost use Rattle.flat_core.specs.Updates.{running_updates};
 
-use crate::task::Form;
 use choice_text::print::print_choice;
+use command_words::command::Form;
 use flat_core::flat::Flat;
 use last_use::reasons::Reasons;
 use program_text::print::print_flat;

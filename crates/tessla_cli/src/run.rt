@@ -1,30 +1,36 @@
 // A run, from the words to its end.
 
-ghost use Rattle.std.specs.Prelude.{◌≡◌, ◌<◌, ◌≤◌, ℕ, List, false, length, IfOk, OnOk, IsErrOf};
+ghost use Rattle.std.specs.Prelude.{◌≡◌, ◌<◌, ◌≤◌, ◌^◌, ℕ, List, false, length, IfOk, OnOk, IsErrOf};
 ghost use Rattle.alias_rules.specs.Fine.{IsTakenPlan};
+ghost use Rattle.command_words.specs.Words.{IsLimited, IsLimitedRun, command_of};
 ghost use Rattle.last_use.specs.Reasons.{AreReasons};
+ghost use Rattle.sample_trace.specs.Trace.{trace_text};
 ghost use Rattle.spec_compiler.specs.Compiled.{CompilesSomething};
-ghost use Rattle.spec_compiler.specs.inner.Ready.{IsReady};
+ghost use Rattle.trace_run.specs.Limited.{AreLimited};
 ghost use Rattle.tsl_world.specs.Standing.{at_first, is_open};
 ghost use Rattle.tsl_world.specs.Runs.{Grows};
 ghost use Rattle.tsl_world.specs.World.{RoseBy};
-ghost use Rattle.tessla_cli.specs.inner.RunPhases.{AloneIsDone, HasPrinted, RunsAlone, RunsSource, SourceEnds};
-ghost use Rattle.tessla_cli.specs.inner.RunPhases.{RunsSpec};
-ghost use Rattle.tessla_cli.specs.inner.RunPhases.{SpecEnds, RunsWords, WordsEnd};
-ghost use Rattle.tessla_cli.specs.Tasks.{IsLimitedAlone, IsLimitedTask, alone_seen, print, task_seen};
+ghost use Rattle.tessla_cli.specs.Alone.{BenchStops, IsTallyText};
+ghost use Rattle.tessla_cli.specs.Asked.{options_of};
+ghost use Rattle.tessla_cli.specs.inner.RunPhases.{AloneEnds, Does, DoesAll, DoesAllAsked, DoesAsked, GivesName, HasMonitored, HasPrinted};
+ghost use Rattle.tessla_cli.specs.inner.RunPhases.{HasWritten, Monitors, Prints, ReadsName, RunsAlone, RunsSource, RunsSpec};
+ghost use Rattle.tessla_cli.specs.inner.RunPhases.{SourceEnds, SpecEnds};
 
-use crate::alone::{AloneOutcome, outcome_of};
+use crate::bench::{Benched, outcome_of};
 use crate::ending::{Ended, Ending, refused};
 use crate::print::text_of;
 use crate::source::read_source;
-use crate::task::{Alone, Form, Request, Task, asked_for};
+use command_words::command::{Command, Form, Run, Workload};
 use command_words::words::Words;
+use sample_trace::trace::sample_trace;
 use spec_compiler::compile::{Compiled, compile};
 use std::alloc::Global;
+use trace_monitor::options::Options;
 use trace_reader::limits::MOST_PIECE_BYTES;
 use trace_run::broken::Broken;
 use trace_run::run::run_code;
 use trace_run::write::write_all;
+use tsl_value::bytes::Bytes;
 use tsl_world::{Channel, Slot, World};
 
 /// Prints the text that the code of a source has in a form.
@@ -41,7 +47,7 @@ fn print_text<W: World>(
     ensures memory { IsErrOf result Broken.Memory → W.faults world.new ≡ W.faults world.old }
     ensures heard { W.unheard world.new ≡ W.unheard world.old }
     ensures calls { (source : List ℕ) → CompilesSomething source compiled.now.code.system
-        → Grows W.told W.journal world.old world.new (RunsSource source (print form)) }
+        → Grows W.told W.journal world.old world.new (RunsSource (Prints source form)) }
     ensures ending { IfOk result (λ ending. (source : List ℕ) → CompilesSomething source compiled.now.code.system
         → (ending ≡ Ending.Done) × Grows W.told W.journal world.old world.new (HasPrinted source form)) }
 {
@@ -50,134 +56,235 @@ fn print_text<W: World>(
     Ok(Ending::Done)
 }
 
-/// Does with a compiled source what is asked for.
-fn perform<W: World>(
-    alloc: Global,
-    world: &mut W,
-    compiled: &Compiled,
-    task: Task<'_>,
-    buf: &mut [u8],
-) -> Result<Ended, Broken>
-    requires room { 0 < length buf.old }
-    requires short { length buf.old ≤ MOST_PIECE_BYTES }
-    requires stands { is_open (W.standing world.old) Slot.Trace ≡ false }
-    requires limited { IsLimitedTask (task_seen task) }
-    requires ready { IsReady compiled.now.code.system }
-    requires taken { IsTakenPlan compiled.now.code.system compiled.now.code.in_place compiled.now.code.order }
-    requires reasons { AreReasons compiled.now.code.system compiled.now.code.in_place compiled.now.reasons }
-    ensures ok { OnOk result (W.faults world.new ≡ W.faults world.old) }
-    ensures outside { IsErrOf result Broken.Outside → RoseBy 1 (W.faults world.old) (W.faults world.new) }
-    ensures memory { IsErrOf result Broken.Memory → W.faults world.new ≡ W.faults world.old }
-    ensures heard { W.unheard world.new ≡ W.unheard world.old }
-    ensures calls { (source : List ℕ) → CompilesSomething source compiled.now.code.system
-        → Grows W.told W.journal world.old world.new (RunsSource source (task_seen task.entry)) }
-    ensures ending { IfOk result (λ ended. (source : List ℕ) → CompilesSomething source compiled.now.code.system
-        → Grows W.told W.journal world.old world.new (SourceEnds source (task_seen task.entry) ended)) }
-{
-    match task {
-        Task::Print(form) => { Ok(Ended::alone(alloc, print_text(alloc, world, form, compiled)?)) },
-        Task::Monitor {
-            trace,
-            options,
-            with_statistics,
-        } => Ok(Ended::of(run_code(
-            alloc,
-            world,
-            &compiled.code,
-            trace,
-            options,
-            with_statistics,
-            buf,
-        )?)),
-    }
-}
-
-/// Compiles a source and does with it what is asked for.
-fn run_source<W: World>(
+/// Compiles a source and prints the text that it has in a form.
+fn print_source<W: World>(
     alloc: Global,
     world: &mut W,
     source: &[u8],
-    task: Task<'_>,
-    buf: &mut [u8],
+    form: Form,
 ) -> Result<Ended, Broken>
-    requires room { 0 < length buf.old }
-    requires short { length buf.old ≤ MOST_PIECE_BYTES }
-    requires stands { is_open (W.standing world.old) Slot.Trace ≡ false }
-    requires limited { IsLimitedTask (task_seen task) }
     ensures ok { OnOk result (W.faults world.new ≡ W.faults world.old) }
     ensures outside { IsErrOf result Broken.Outside → RoseBy 1 (W.faults world.old) (W.faults world.new) }
     ensures memory { IsErrOf result Broken.Memory → W.faults world.new ≡ W.faults world.old }
     ensures heard { W.unheard world.new ≡ W.unheard world.old }
-    ensures calls { Grows W.told W.journal world.old world.new (RunsSource source.now (task_seen task.entry)) }
+    ensures calls { Grows W.told W.journal world.old world.new (RunsSource (Prints source.now form)) }
     ensures ending { IfOk result (λ ended. Grows W.told W.journal world.old world.new
-        (SourceEnds source.now (task_seen task.entry) ended)) }
+        (SourceEnds source.now (HasWritten source.now form ended) ended)) }
 {
     match compile(alloc, source) {
-        Ok(compiled) => Ok(perform(alloc, world, &compiled, task, buf)?),
+        Ok(compiled) => Ok(Ended::alone(alloc, print_text(alloc, world, form, &compiled)?)),
         Err(fault) => Ok(Ended::alone(alloc, refused(fault)?)),
     }
 }
 
-/// Opens and reads a specification and does with it what is asked for, by this buffer.
-fn run_spec<W: World>(
+/// How far a run goes.
+fn options_of(run: &Run) -> Options
+    ensures options { result ≡ options_of run.now }
+    ensures limited { IsLimitedRun run.now → AreLimited result }
+{
+    Options {
+        until: run.until,
+        instants: run.instants,
+        bytes: run.bytes,
+        strict: run.strict,
+    }
+}
+
+/// Compiles a source and monitors the trace of a run.
+fn run_source<W: World>(
+    alloc: Global,
+    world: &mut W,
+    source: &[u8],
+    run: &Run,
+    buf: &mut [u8],
+) -> Result<Ended, Broken>
+    requires room { 0 < length buf.old }
+    requires short { length buf.old ≤ MOST_PIECE_BYTES }
+    requires stands { is_open (W.standing world.old) Slot.Trace ≡ false }
+    requires limited { IsLimitedRun run.now }
+    ensures ok { OnOk result (W.faults world.new ≡ W.faults world.old) }
+    ensures outside { IsErrOf result Broken.Outside → RoseBy 1 (W.faults world.old) (W.faults world.new) }
+    ensures memory { IsErrOf result Broken.Memory → W.faults world.new ≡ W.faults world.old }
+    ensures heard { W.unheard world.new ≡ W.unheard world.old }
+    ensures calls { Grows W.told W.journal world.old world.new (RunsSource (Monitors source.now run.now)) }
+    ensures ending { IfOk result (λ ended. Grows W.told W.journal world.old world.new
+        (SourceEnds source.now (HasMonitored source.now run.now ended) ended)) }
+{
+    match compile(alloc, source) {
+        Ok(compiled) => Ok(Ended::of(run_code(
+            alloc,
+            world,
+            &compiled.code,
+            run.trace.as_str(),
+            options_of(run),
+            run.stats,
+            buf,
+        )?)),
+        Err(fault) => Ok(Ended::alone(alloc, refused(fault)?)),
+    }
+}
+
+/// Opens a specification and reads it.
+fn read_spec<W: World>(
     alloc: Global,
     world: &mut W,
     name: &str,
-    task: Task<'_>,
+    buf: &mut [u8],
+) -> Result<Bytes, Broken>
+    requires room { 0 < length buf.old }
+    requires short { length buf.old ≤ MOST_PIECE_BYTES }
+    requires stands { W.standing world.old ≡ at_first }
+    ensures ok { OnOk result (W.faults world.new ≡ W.faults world.old) }
+    ensures outside { IsErrOf result Broken.Outside → RoseBy 1 (W.faults world.old) (W.faults world.new) }
+    ensures memory { IsErrOf result Broken.Memory → W.faults world.new ≡ W.faults world.old }
+    ensures heard { W.unheard world.new ≡ W.unheard world.old }
+    ensures trace { OnOk result (is_open (W.standing world.new) Slot.Trace ≡ false) }
+    ensures calls { Grows W.told W.journal world.old world.new (ReadsName name.now) }
+    ensures source { IfOk result (λ source. Grows W.told W.journal world.old world.new (GivesName name.now source)) }
+{
+    world.open(Slot::Spec, name)?;
+    Ok(read_source(alloc, world, buf)?)
+}
+
+/// Reads a specification and writes a text of it, by this buffer.
+fn write_form<W: World>(
+    alloc: Global,
+    world: &mut W,
+    spec: &str,
+    form: Form,
     buf: &mut [u8],
 ) -> Result<Ended, Broken>
     requires room { 0 < length buf.old }
     requires short { length buf.old ≤ MOST_PIECE_BYTES }
     requires stands { W.standing world.old ≡ at_first }
-    requires limited { IsLimitedTask (task_seen task) }
     ensures ok { OnOk result (W.faults world.new ≡ W.faults world.old) }
     ensures outside { IsErrOf result Broken.Outside → RoseBy 1 (W.faults world.old) (W.faults world.new) }
     ensures memory { IsErrOf result Broken.Memory → W.faults world.new ≡ W.faults world.old }
     ensures heard { W.unheard world.new ≡ W.unheard world.old }
-    ensures calls { Grows W.told W.journal world.old world.new (RunsSpec name.now (task_seen task.entry)) }
-    ensures ending { IfOk result (λ ended. Grows W.told W.journal world.old world.new (SpecEnds name.now (task_seen task.entry) ended)) }
+    ensures calls { Grows W.told W.journal world.old world.new (RunsSpec spec.now (λ source. RunsSource (Prints source form))) }
+    ensures ending { IfOk result (λ ended. Grows W.told W.journal world.old world.new
+        (SpecEnds spec.now (λ source. SourceEnds source (HasWritten source form ended) ended))) }
 {
-    world.open(Slot::Spec, name)?;
-    let source = read_source(alloc, world, buf)?;
-    Ok(run_source(alloc, world, source.as_slice(), task, buf)?)
+    let source = read_spec(alloc, world, spec, buf)?;
+    Ok(print_source(alloc, world, source.as_slice(), form)?)
 }
 
-/// The same, with a buffer of its own.
-fn run_in_pieces<W: World>(
+/// Reads a specification and monitors a trace under it, by this buffer.
+fn run_trace<W: World>(
     alloc: Global,
     world: &mut W,
-    name: &str,
-    task: Task<'_>,
+    run: &Run,
+    buf: &mut [u8],
 ) -> Result<Ended, Broken>
+    requires room { 0 < length buf.old }
+    requires short { length buf.old ≤ MOST_PIECE_BYTES }
     requires stands { W.standing world.old ≡ at_first }
-    requires limited { IsLimitedTask (task_seen task) }
+    requires limited { IsLimitedRun run.now }
     ensures ok { OnOk result (W.faults world.new ≡ W.faults world.old) }
     ensures outside { IsErrOf result Broken.Outside → RoseBy 1 (W.faults world.old) (W.faults world.new) }
     ensures memory { IsErrOf result Broken.Memory → W.faults world.new ≡ W.faults world.old }
     ensures heard { W.unheard world.new ≡ W.unheard world.old }
-    ensures calls { Grows W.told W.journal world.old world.new (RunsSpec name.now (task_seen task.entry)) }
-    ensures ending { IfOk result (λ ended. Grows W.told W.journal world.old world.new (SpecEnds name.now (task_seen task.entry) ended)) }
+    ensures calls { Grows W.told W.journal world.old world.new (RunsSpec run.now.spec (λ source. RunsSource (Monitors source run.now))) }
+    ensures ending { IfOk result (λ ended. Grows W.told W.journal world.old world.new
+        (SpecEnds run.now.spec (λ source. SourceEnds source (HasMonitored source run.now ended) ended))) }
 {
-    let mut buf = vec![in alloc; 0u8; MOST_PIECE_BYTES]?;
-    Ok(run_spec(alloc, world, name, task, &mut buf)?)
+    let source = read_spec(alloc, world, run.spec.as_str(), buf)?;
+    Ok(run_source(alloc, world, source.as_slice(), run, buf)?)
 }
 
-/// Writes what is asked for without a specification of the outside, or tells how the program ends where there is none of it.
-fn write_alone<W: World>(alloc: Global, world: &mut W, alone: Alone) -> Result<Ending, Broken>
-    requires { IsLimitedAlone (alone_seen alone) }
+/// Writes a text of a specification, with a buffer of its own.
+fn write_in_pieces<W: World>(
+    alloc: Global,
+    world: &mut W,
+    spec: &str,
+    form: Form,
+) -> Result<Ended, Broken>
+    requires { W.standing world.old ≡ at_first }
     ensures ok { OnOk result (W.faults world.new ≡ W.faults world.old) }
     ensures outside { IsErrOf result Broken.Outside → RoseBy 1 (W.faults world.old) (W.faults world.new) }
     ensures memory { IsErrOf result Broken.Memory → W.faults world.new ≡ W.faults world.old }
     ensures heard { W.unheard world.new ≡ W.unheard world.old }
-    ensures calls { Grows W.told W.journal world.old world.new (RunsAlone (alone_seen alone)) }
-    ensures ending { IfOk result (λ ending. Grows W.told W.journal world.old world.new (AloneIsDone (alone_seen alone) ending)) }
+    ensures calls { Grows W.told W.journal world.old world.new (RunsSpec spec.now (λ source. RunsSource (Prints source form))) }
+    ensures ending { IfOk result (λ ended. Grows W.told W.journal world.old world.new
+        (SpecEnds spec.now (λ source. SourceEnds source (HasWritten source form ended) ended))) }
 {
-    match outcome_of(alloc, alone)? {
-        AloneOutcome::Text(text) => {
+    let mut buf = vec![in alloc; 0u8; MOST_PIECE_BYTES]?;
+    Ok(write_form(alloc, world, spec, form, &mut buf)?)
+}
+
+/// Monitors a trace, with a buffer of its own.
+fn run_in_pieces<W: World>(alloc: Global, world: &mut W, run: &Run) -> Result<Ended, Broken>
+    requires stands { W.standing world.old ≡ at_first }
+    requires limited { IsLimitedRun run.now }
+    ensures ok { OnOk result (W.faults world.new ≡ W.faults world.old) }
+    ensures outside { IsErrOf result Broken.Outside → RoseBy 1 (W.faults world.old) (W.faults world.new) }
+    ensures memory { IsErrOf result Broken.Memory → W.faults world.new ≡ W.faults world.old }
+    ensures heard { W.unheard world.new ≡ W.unheard world.old }
+    ensures calls { Grows W.told W.journal world.old world.new (RunsSpec run.now.spec (λ source. RunsSource (Monitors source run.now))) }
+    ensures ending { IfOk result (λ ended. Grows W.told W.journal world.old world.new
+        (SpecEnds run.now.spec (λ source. SourceEnds source (HasMonitored source run.now ended) ended))) }
+{
+    let mut buf = vec![in alloc; 0u8; MOST_PIECE_BYTES]?;
+    Ok(run_trace(alloc, world, run, &mut buf)?)
+}
+
+/// Writes the sample trace with so many lines.
+fn generate<W: World>(alloc: Global, world: &mut W, lines: u64) -> Result<Ended, Broken>
+    requires { lines < 2 ^ 63 }
+    ensures ok { OnOk result (W.faults world.new ≡ W.faults world.old) }
+    ensures outside { IsErrOf result Broken.Outside → RoseBy 1 (W.faults world.old) (W.faults world.new) }
+    ensures memory { IsErrOf result Broken.Memory → W.faults world.new ≡ W.faults world.old }
+    ensures heard { W.unheard world.new ≡ W.unheard world.old }
+    ensures calls { Grows W.told W.journal world.old world.new (RunsAlone (λ text. text ≡ trace_text lines)) }
+    ensures ending { IfOk result (λ ended. Grows W.told W.journal world.old world.new
+        (AloneEnds (λ text. text ≡ trace_text lines) (λ by. ⊥) ended)) }
+{
+    let text = sample_trace(alloc, lines)?;
+    write_all(world, Channel::Out, text.as_slice())?;
+    Ok(Ended::alone(alloc, Ending::Done))
+}
+
+/// Writes the tally of a bench, or tells how the program ends where there is none.
+fn tell_bench<W: World>(
+    alloc: Global,
+    world: &mut W,
+    kind: Workload,
+    lines: u64,
+) -> Result<Ended, Broken>
+    requires { lines < 2 ^ 63 }
+    ensures ok { OnOk result (W.faults world.new ≡ W.faults world.old) }
+    ensures outside { IsErrOf result Broken.Outside → RoseBy 1 (W.faults world.old) (W.faults world.new) }
+    ensures memory { IsErrOf result Broken.Memory → W.faults world.new ≡ W.faults world.old }
+    ensures heard { W.unheard world.new ≡ W.unheard world.old }
+    ensures calls { Grows W.told W.journal world.old world.new (RunsAlone (IsTallyText kind lines)) }
+    ensures ending { IfOk result (λ ended. Grows W.told W.journal world.old world.new
+        (AloneEnds (IsTallyText kind lines) (BenchStops kind lines) ended)) }
+{
+    match outcome_of(alloc, kind, lines)? {
+        Benched::Text(text) => {
             write_all(world, Channel::Out, text.as_slice())?;
-            Ok(Ending::Done)
+            Ok(Ended::alone(alloc, Ending::Done))
         }
-        AloneOutcome::Stops(ending) => Ok(ending),
+        Benched::Stops(ending) => Ok(Ended::alone(alloc, ending)),
+    }
+}
+
+/// Does what a command asks for.
+fn perform<W: World>(alloc: Global, world: &mut W, command: &Command) -> Result<Ended, Broken>
+    requires stands { W.standing world.old ≡ at_first }
+    requires limited { IsLimited command.now }
+    ensures ok { OnOk result (W.faults world.new ≡ W.faults world.old) }
+    ensures outside { IsErrOf result Broken.Outside → RoseBy 1 (W.faults world.old) (W.faults world.new) }
+    ensures memory { IsErrOf result Broken.Memory → W.faults world.new ≡ W.faults world.old }
+    ensures heard { W.unheard world.new ≡ W.unheard world.old }
+    ensures calls { Grows W.told W.journal world.old world.new (Does command.now) }
+    ensures ending { IfOk result (λ ended. Grows W.told W.journal world.old world.new (DoesAll command.now ended)) }
+{
+    match command {
+        Command::Write { spec, form } => write_in_pieces(alloc, world, spec.as_str(), *form),
+        Command::Run(run) => run_in_pieces(alloc, world, run),
+        Command::Generate { lines } => generate(alloc, world, *lines),
+        Command::Bench { kind, lines } => tell_bench(alloc, world, *kind, *lines),
     }
 }
 
@@ -188,12 +295,11 @@ pub fn run<W: World>(alloc: Global, words: &Words, world: &mut W) -> Result<Ende
     ensures outside { IsErrOf result Broken.Outside → RoseBy 1 (W.faults world.old) (W.faults world.new) }
     ensures memory { IsErrOf result Broken.Memory → W.faults world.new ≡ W.faults world.old }
     ensures heard { W.unheard world.new ≡ W.unheard world.old }
-    ensures calls { Grows W.told W.journal world.old world.new (RunsWords words.now) }
-    ensures ending { IfOk result (λ ended. Grows W.told W.journal world.old world.new (WordsEnd words.now ended)) }
+    ensures calls { Grows W.told W.journal world.old world.new (DoesAsked (command_of words.now)) }
+    ensures ending { IfOk result (λ ended. Grows W.told W.journal world.old world.new (DoesAllAsked (command_of words.now) ended)) }
 {
-    match asked_for(alloc, words)? {
-        Some(Request::Over { spec, task }) => Ok(run_in_pieces(alloc, world, spec, task)?),
-        Some(Request::Alone(alone)) => Ok(Ended::alone(alloc, write_alone(alloc, world, alone)?)),
+    match words.command(alloc)? {
+        Some(command) => Ok(perform(alloc, world, &command)?),
         None => Ok(Ended::alone(alloc, Ending::Words)),
     }
 }

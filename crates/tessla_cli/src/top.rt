@@ -1,20 +1,20 @@
 // The top call.
 
-ghost use Rattle.std.specs.Prelude.{◌≡◌, ◌⊎◌, ◌<◌, ◌≤◌, ◌-◌, ◌^◌, List, [], None};
-ghost use Rattle.tsl_world.specs.Journal.{StopsAtEnd, given};
+ghost use Rattle.std.specs.Prelude.{◌≡◌, ◌<◌, ◌≤◌, ◌-◌, ◌^◌};
+ghost use Rattle.command_words.specs.Words.{command_of};
+ghost use Rattle.tsl_world.specs.Journal.{StopsAtEnd};
 ghost use Rattle.tsl_world.specs.Runs.{Grows};
+ghost use Rattle.tsl_world.specs.Seen.{seen};
 ghost use Rattle.tsl_world.specs.Standing.{at_first};
-ghost use Rattle.tsl_world.specs.declared.outside.Did.{Did};
 ghost use Rattle.tessla_cli.specs.Completeness.{IsComplete};
 ghost use Rattle.tessla_cli.specs.Conduct.{OpensAsAsked, MakesNothing, ReadsSpecFirst, ReadsTraceLast, StopsAtLimit, ReadsPieces};
 ghost use Rattle.tessla_cli.specs.Conduct.{GoesOnAtReads, IsPartlyDue, StopsAtFailures, WritesLast};
 ghost use Rattle.tessla_cli.specs.Failures.{SomeFailed, failures};
 ghost use Rattle.tessla_cli.specs.Headline.{IsDueAtReads};
 ghost use Rattle.tessla_cli.specs.Messages.{broken_line};
-ghost use Rattle.tessla_cli.specs.Outcome.{Concludes, Ends, Faulted, Limited, IsExact, LineRefused, Refused, Tells, TellsFailure};
+ghost use Rattle.tessla_cli.specs.Outcome.{Concludes, EndsWith, IsExact, Tells, TellsFailure};
 ghost use Rattle.tessla_cli.specs.Unseen.{NoUpdateIsSeen};
 
-use crate::ending::Ending;
 use crate::run::run;
 use crate::tell::{tell_broken, tell_ending};
 use command_words::words::Words;
@@ -29,7 +29,7 @@ fn conclude<W: World>(alloc: Global, words: &Words, world: &mut W) -> u8
     ensures outside { result ≡ 5 → SomeFailed (failures W.faults W.unheard world.old) (failures W.faults W.unheard world.new) }
     ensures answers { result ≤ 7 }
     ensures calls { Grows W.told W.journal world.old world.new
-        (Concludes words.now (failures W.faults W.unheard world.old) (failures W.faults W.unheard world.new) result) }
+        (Concludes (command_of words.now) (failures W.faults W.unheard world.old) (failures W.faults W.unheard world.new) result) }
 {
     match run(alloc, words, world) {
         Ok(ended) => tell_ending(alloc, world, &ended),
@@ -65,11 +65,11 @@ pub fn tessla<W: World>(alloc: Global, words: &Words, world: &mut W) -> u8
     requires { W.standing world.old ≡ at_first }
 
     // What is opened, read and written, and in which order.
-    ensures opens { Grows W.told W.journal world.old world.new (OpensAsAsked words.now) }
+    ensures opens { Grows W.told W.journal world.old world.new (OpensAsAsked (command_of words.now)) }
     ensures makes { Grows W.told W.journal world.old world.new MakesNothing }
     ensures spec_first { Grows W.told W.journal world.old world.new ReadsSpecFirst }
     ensures trace_last { Grows W.told W.journal world.old world.new ReadsTraceLast }
-    ensures writes_last { Grows W.told W.journal world.old world.new (WritesLast words.now) }
+    ensures writes_last { Grows W.told W.journal world.old world.new (WritesLast (command_of words.now)) }
     ensures spec_ends { Grows W.told W.journal world.old world.new (StopsAtEnd Slot.Spec) }
     ensures spec_limit { Grows W.told W.journal world.old world.new StopsAtLimit }
     ensures trace_ends { Grows W.told W.journal world.old world.new (StopsAtEnd Slot.Trace) }
@@ -79,33 +79,29 @@ pub fn tessla<W: World>(alloc: Global, words: &Words, world: &mut W) -> u8
     ensures stops { Grows W.told W.journal world.old world.new StopsAtFailures }
 
     // Before each read of the trace, what was given to Out is the text that is due of the bytes taken so far, and nothing ends the run.
-    ensures due { Grows W.told W.journal world.old world.new (IsDueAtReads words.now) }
-    ensures goes_on { Grows W.told W.journal world.old world.new (GoesOnAtReads words.now) }
+    ensures due { Grows W.told W.journal world.old world.new (IsDueAtReads (command_of words.now)) }
+    ensures goes_on { Grows W.told W.journal world.old world.new (GoesOnAtReads (command_of words.now)) }
 
     // Whatever the status, what was given to Out begins the text that is due of all that was taken, or that the words ask to print.
-    ensures partly { Grows W.told W.journal world.old world.new (IsPartlyDue words.now) }
+    ensures partly { Grows W.told W.journal world.old world.new (λ part. IsPartlyDue (command_of words.now) (seen part)) }
 
     // Over the closed times of the trace that was taken, the register machine by the plan that is taken: no update in place copies an
     // element or changes a register that is still read. That the engine runs as this machine does is said of the engine, and not here.
-    ensures unseen { Grows W.told W.journal world.old world.new (NoUpdateIsSeen words.now) }
+    ensures unseen { Grows W.told W.journal world.old world.new (λ part. NoUpdateIsSeen (command_of words.now) (seen part)) }
 
-    // The cause of each status, and what it leaves on Out and Err.
-    ensures done { result ≡ 0 → Grows W.told W.journal world.old world.new (Ends words.now Ending.Done) }
-    ensures faulted { result ≡ 1 → Grows W.told W.journal world.old world.new (Faulted words.now) }
-    ensures words_refused { result ≡ 2 → Grows W.told W.journal world.old world.new (Ends words.now Ending.Words) }
-    ensures refused { result ≡ 3 → Grows W.told W.journal world.old world.new (Refused words.now) }
-    ensures line_refused { result ≡ 4 → Grows W.told W.journal world.old world.new (LineRefused words.now) }
+    // Each status but 5 and 6 is that of an ending, with its cause and what it leaves on Out and Err.
+    ensures ended { (result ≡ 5 → ⊥) → (result ≡ 6 → ⊥) → Grows W.told W.journal world.old world.new
+        (EndsWith (command_of words.now) result) }
     ensures failed { result ≡ 5 → SomeFailed (failures W.faults W.unheard world.old) (failures W.faults W.unheard world.new) }
     ensures failed_told { result ≡ 5 → Grows W.told W.journal world.old world.new
-        (TellsFailure words.now (failures W.faults W.unheard world.old) (failures W.faults W.unheard world.new)) }
+        (TellsFailure (command_of words.now) (failures W.faults W.unheard world.old) (failures W.faults W.unheard world.new)) }
     ensures memory { result ≡ 6 → Grows W.told W.journal world.old world.new (Tells (broken_line Broken.Memory)) }
-    ensures limited { result ≡ 7 → Grows W.told W.journal world.old world.new (Limited words.now) }
     ensures calm { (result ≡ 5 → ⊥) → W.faults world.new ≡ W.faults world.old }
-    ensures exact { Grows W.told W.journal world.old world.new (IsExact words.now result) }
+    ensures exact { Grows W.told W.journal world.old world.new (λ part. IsExact (command_of words.now) result (seen part)) }
 
     // Where the outside did not fail, what nothing stands against is done whole, or memory ran out.
     ensures complete { W.faults world.new ≡ W.faults world.old → W.faults world.old < 2 ^ 64 - 1
-        → Grows W.told W.journal world.old world.new (IsComplete words.now result) }
+        → Grows W.told W.journal world.old world.new (λ part. IsComplete (command_of words.now) result (seen part)) }
     ensures answers { result ≤ 7 }
 {
     conclude(alloc, words, world)

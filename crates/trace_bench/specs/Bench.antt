@@ -1,7 +1,7 @@
 -- What comes of a specification that is run over the sample trace.
 use Rattle.std.specs.Prelude.{ℕ, List}
-use Rattle.command_words.specs.declared.words.Workload.{Workload}
-use Rattle.command_words.specs.declared.words.Workload.TheVariants as kind
+use Rattle.command_words.specs.declared.command.Workload.{Workload}
+use Rattle.command_words.specs.declared.command.Workload.TheVariants as kind
 use Rattle.alias_rules.specs.Fine.{IsTakenPlan}
 use Rattle.flat_core.specs.System.{System}
 use Rattle.sample_trace.specs.Source.{copy_source, seen_source}

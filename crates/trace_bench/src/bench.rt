@@ -6,7 +6,7 @@ ghost use Rattle.trace_bench.specs.Bench.{IsBenched, source_of};
 
 use crate::measure::measure;
 use crate::outcome::Outcome;
-use command_words::words::Workload;
+use command_words::command::Workload;
 use sample_trace::spec::{copy_source, seen_source};
 use spec_compiler::compile::compile;
 use spec_reader::fault::SpecFault;

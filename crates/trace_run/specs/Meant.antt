@@ -12,9 +12,8 @@ use Rattle.trace_monitor.specs.declared.options.Options.{Options}
 use Rattle.trace_monitor.specs.Due.{lines_in, refused_in, bound_in}
 use Rattle.trace_reader.specs.declared.fault.TraceFault.{TraceFault}
 use Rattle.tsl_world.specs.Begins.{Begins}
-use Rattle.tsl_world.specs.Journal.{given, taken, ended}
+use Rattle.tsl_world.specs.Seen.{Seen}
 use Rattle.tsl_world.specs.declared.outside.Channel.TheVariants.{Out}
-use Rattle.tsl_world.specs.declared.outside.Did.{Did}
 use Rattle.tsl_world.specs.declared.outside.Slot.TheVariants.{Trace}
 
 -- By the items of a specification alone: the inputs that they declare are those by which the lines of the trace are read.
@@ -43,10 +42,10 @@ module _ (items : List tree.Item) (o : Options) where
     pub quiet : IsQuietAsMeant bytes false
 
   -- what was given to Out begins the text that is due of all that was taken
-  pub record BeginsAsMeant (part : List Did) : Type 0 where
+  pub record BeginsAsMeant (x : Seen) : Type 0 where
     pub text : List ℕ
-    pub due : IsDueAsMeant (taken Trace part) (ended Trace part) text
-    pub begins : Begins (given Out part) text
+    pub due : IsDueAsMeant (x.taken Trace) (x.ended Trace) text
+    pub begins : Begins (x.given Out) text
 
 -- Nothing in these bytes of a trace ends a run before its end: no line is refused, no fault is closed, and no more instants are closed
 -- than may be.
@@ -72,6 +71,6 @@ module _ (items : List tree.Item) (s : System) (o : Options) where
       (count ≡ o.instants) × LimitIsMeant items (lines_meant items o bytes ended) (bound_meant items o bytes ended) o.instants time
 
   -- what was given to Out is all of the text that is due of all that was taken, and the run ends
-  pub record WatchEndsAsMeant (how : RunEnding) (part : List Did) : Type 0 where
-    pub due : IsDueAsMeant items o (taken Trace part) (ended Trace part) (given Out part)
-    pub ends : EndsAsMeant (taken Trace part) (ended Trace part) how
+  pub record WatchEndsAsMeant (how : RunEnding) (x : Seen) : Type 0 where
+    pub due : IsDueAsMeant items o (x.taken Trace) (x.ended Trace) (x.given Out)
+    pub ends : EndsAsMeant (x.taken Trace) (x.ended Trace) how

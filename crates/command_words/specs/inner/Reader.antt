@@ -7,8 +7,9 @@ use Rattle.clap.specs.Walk.{Rule, Text}
 use Rattle.clap.specs.declared.builder.action.ArgAction.TheVariants.{SetTrue}
 use Rattle.clap.specs.declared.parser.matches.ArgMatches.{ArgMatches}
 use Rattle.clap.specs.declared.parser.matches.Found.{Found}
+use Rattle.command_words.specs.declared.command.Run.{Run}
 use Rattle.command_words.specs.Words.{Name, until_name, instants_name, bytes_name, Flag, strict_flag, stats_flag, Piece, pieces, plains}
-use Rattle.command_words.specs.Words.{values, uses, Run, read, run_by, spec_form, run_form, count_form}
+use Rattle.command_words.specs.Words.{values, uses, read, run_by, one_room, run_room, pair_room}
 
 -- the names of the arguments
 abbrev pub id_of : Name → Text
@@ -73,6 +74,6 @@ says found id b = one_text found id ≡ Some (bool_text b)
 
 -- no command reads the words
 pub record IsRefused (words : List (List ℕ)) : Type 0 where
-  pub run : read run_form words ≡ None
-  pub spec : read spec_form words ≡ None
-  pub count : read count_form words ≡ None
+  pub run : read run_room words ≡ None
+  pub spec : read one_room words ≡ None
+  pub count : read pair_room words ≡ None

@@ -1,11 +1,16 @@
 -- The phases of a run, by what each adds to the journal.
-use Rattle.std.specs.Prelude.{◌≡◌, ℕ, ◌≤◌, Bool, false, List, [], ◌∷◌, ◌++◌, length, Some, None}
+use Rattle.std.specs.Prelude.{◌≡◌, ℕ, ◌≤◌, Bool, false, List, [], ◌∷◌, ◌++◌, length, Option, Some, None}
+use Rattle.command_words.specs.declared.command.Command.{Command}
+use Rattle.command_words.specs.declared.command.Command.TheVariants as command
+use Rattle.command_words.specs.declared.command.Form.{Form}
+use Rattle.command_words.specs.declared.command.Run.{Run}
+use Rattle.command_words.specs.declared.command.Workload.{Workload}
 use Rattle.flat_core.specs.System.{System}
+use Rattle.sample_trace.specs.Trace.{trace_text}
 use Rattle.spec_compiler.specs.Compiled.{Compiles, IsRefusedBy}
 use Rattle.spec_lexer.specs.declared.limits.TheConstants.{MOST_SOURCE_BYTES}
 use Rattle.spec_reader.specs.declared.fault.SpecFault.{SpecFault}
 use Rattle.syntax_tree.specs.Tree as tree
-use Rattle.trace_monitor.specs.declared.options.Options.{Options}
 use Rattle.trace_reader.specs.declared.limits.TheConstants.{MOST_PIECE_BYTES}
 use Rattle.trace_run.specs.declared.run.Ran.{Ran}
 use Rattle.trace_run.specs.Effects.{RunsSystem, SystemEnds, Writes}
@@ -15,16 +20,18 @@ use Rattle.tsl_world.specs.declared.outside.Did.{Did}
 use Rattle.tsl_world.specs.declared.outside.Did.TheVariants.{Opened, NotOpened, NotTook, Took}
 use Rattle.tsl_world.specs.declared.outside.Slot.{Slot}
 use Rattle.tsl_world.specs.declared.outside.Slot.TheVariants.{Spec}
+use Rattle.tsl_world.specs.Seen.{seen}
 use Rattle.tsl_world.specs.Journal.{given, taken, ended, AtReads, IsDone, Each, StopsAtFailure}
 use Rattle.tessla_cli.specs.declared.ending.Ended.{Ended}
 use Rattle.tessla_cli.specs.declared.ending.Ending.{Ending}
 use Rattle.tessla_cli.specs.declared.ending.Ending.TheVariants as ending
-use Rattle.tessla_cli.specs.declared.task.Form.{Form}
-use Rattle.tessla_cli.specs.Alone.{AloneStops, IsAloneText}
-use Rattle.tessla_cli.specs.Conduct.{HasWhole}
+use Rattle.tessla_cli.specs.declared.bench.Benched.{Benched}
+use Rattle.tessla_cli.specs.declared.bench.Benched.TheVariants as comes
+use Rattle.tessla_cli.specs.Alone.{BenchStops, IsTallyText}
+use Rattle.tessla_cli.specs.Asked.{options_of}
 use Rattle.tessla_cli.specs.Endings.{ending_of}
 use Rattle.tessla_cli.specs.Printed.{IsTextOf}
-use Rattle.tessla_cli.specs.Tasks.{Alone, Task, alone_of, print, monitor, asked_of, requested}
+use Rattle.tessla_cli.specs.Stages.{HasWhole}
 
 -- the specification may be read after this much of the journal
 pub record MayReadSpec (before : List Did) : Type 0 where
@@ -46,7 +53,7 @@ pub record ReadsSpec (part : List Did) : Type 0 where
 -- this is what was taken, and it is whole
 pub record GivesSource (source : List ℕ) (part : List Did) : Type 0 where
   pub bytes_are : taken Spec part ≡ source
-  pub whole : HasWhole part
+  pub whole : HasWhole Spec (seen part)
   pub done : Each IsDone part
 
 -- a text of which this holds is given to Out, as far as it comes
@@ -70,67 +77,108 @@ Prints source f = PrintsText (IsTextOf source f)
 abbrev pub HasPrinted : List ℕ → Form → List Did → Type 0
 HasPrinted source f = HasPrintedText (IsTextOf source f)
 
--- what is asked for without a specification of the outside is written, as far as it comes
-pub data RunsAlone (a : Alone) (part : List Did) : Type 0 where
-  unmade : part ≡ [] → RunsAlone a part
-  writes : PrintsText (IsAloneText a) part → RunsAlone a part
+-- what comes of a bench: its tally, or the ending without one
+abbrev pub IsBenchedAs : Workload → ℕ → Benched → Type 0
+IsBenchedAs kind n (comes.Text text) = IsTallyText kind n text
+IsBenchedAs kind n (comes.Stops by) = BenchStops kind n by
+
+-- a text that needs no specification of the outside is written, as far as it comes
+pub data RunsAlone (P : List ℕ → Type 0) (part : List Did) : Type 0 where
+  unmade : part ≡ [] → RunsAlone P part
+  writes : PrintsText P part → RunsAlone P part
 
 -- all of it, or there is none and the program ends so
-pub data AloneIsDone (a : Alone) (by : Ending) (part : List Did) : Type 0 where
-  written : by ≡ ending.Done → HasPrintedText (IsAloneText a) part → AloneIsDone a by part
-  stopped : AloneStops a by → part ≡ [] → AloneIsDone a by part
+pub data AloneIsDone (P : List ℕ → Type 0) (S : Ending → Type 0) (by : Ending) (part : List Did) : Type 0 where
+  written : by ≡ ending.Done → HasPrintedText P part → AloneIsDone P S by part
+  stopped : S by → part ≡ [] → AloneIsDone P S by part
 
 -- a source is compiled and something is done with it, as far as it comes
-pub data RunsSource (source : List ℕ) (task : Task) (part : List Did) : Type 0 where
-  uncompiled : part ≡ [] → RunsSource source task part
-  compiled : (trace : List ℕ) (o : Options) (statistics : Bool) → task ≡ monitor trace o statistics → (items : List tree.Item) (s : System)
-      → Compiles source items s → RunsSystem trace s o part → RunsSource source task part
-  prints : (f : Form) → task ≡ print f → Prints source f part → RunsSource source task part
+pub data RunsSource (W : List Did → Type 0) (part : List Did) : Type 0 where
+  uncompiled : part ≡ [] → RunsSource W part
+  compiled : W part → RunsSource W part
 
-pub data SourceEnds (source : List ℕ) (task : Task) (by : Ended) (part : List Did) : Type 0 where
+pub data SourceEnds (source : List ℕ) (W : List Did → Type 0) (by : Ended) (part : List Did) : Type 0 where
   spec_refused : {fault : SpecFault} → by.ending ≡ ending.Spec fault → by.statistics ≡ [] → IsRefusedBy source fault → part ≡ []
-      → SourceEnds source task by part
-  compiled_ends : (trace : List ℕ) (o : Options) (statistics : Bool)
-      → task ≡ monitor trace o statistics
-      → (items : List tree.Item) (s : System)
-      → Compiles source items s
-      → (ran : Ran)
-      → by.ending ≡ ending_of ran.ending
-      → by.statistics ≡ ran.statistics
-      → SystemEnds trace s o statistics ran part
-      → SourceEnds source task by part
-  printed : (f : Form)
-      → task ≡ print f
-      → by.ending ≡ ending.Done
-      → by.statistics ≡ []
-      → HasPrinted source f part
-      → SourceEnds source task by part
+      → SourceEnds source W by part
+  compiled_ends : W part → SourceEnds source W by part
 
--- a specification is read by its name and something is done with it
-pub data RunsSpec (name : List ℕ) (task : Task) : List Did → Type 0 where
-  unopened : RunsSpec name task []
-  no_spec : RunsSpec name task (NotOpened Spec name ∷ [])
-  reading : (reads : List Did) → ReadsSpec reads → RunsSpec name task (Opened Spec name ∷ reads)
+-- the trace of a run is monitored
+pub record Monitors (source : List ℕ) (r : Run) (part : List Did) : Type 0 where
+  pub items : List tree.Item
+  pub system : System
+  pub compiles : Compiles source items system
+  pub runs : RunsSystem r.trace system (options_of r) part
+
+pub record HasMonitored (source : List ℕ) (r : Run) (by : Ended) (part : List Did) : Type 0 where
+  pub items : List tree.Item
+  pub system : System
+  pub compiles : Compiles source items system
+  pub ran : Ran
+  pub ending : by.ending ≡ ending_of ran.ending
+  pub statistics : by.statistics ≡ ran.statistics
+  pub ends : SystemEnds r.trace system (options_of r) r.stats ran part
+
+-- a text is written
+pub record HasWritten (source : List ℕ) (f : Form) (by : Ended) (part : List Did) : Type 0 where
+  pub ending : by.ending ≡ ending.Done
+  pub statistics : by.statistics ≡ []
+  pub printed : HasPrinted source f part
+
+-- a specification is read by its name
+pub data ReadsName (name : List ℕ) : List Did → Type 0 where
+  unopened : ReadsName name []
+  no_spec : ReadsName name (NotOpened Spec name ∷ [])
+  reading : (reads : List Did) → ReadsSpec reads → ReadsName name (Opened Spec name ∷ reads)
+
+-- to this source
+pub data GivesName (name source : List ℕ) : List Did → Type 0 where
+  given_name : (reads : List Did) → ReadsSpec reads → GivesSource source reads → GivesName name source (Opened Spec name ∷ reads)
+
+-- and something is done with it, as far as it comes
+pub data RunsSpec (name : List ℕ) (W : List ℕ → List Did → Type 0) : List Did → Type 0 where
+  unread : (part : List Did) → ReadsName name part → RunsSpec name W part
   whole : (reads rest : List Did) (source : List ℕ)
       → ReadsSpec reads
       → GivesSource source reads
-      → RunsSource source task rest
-      → RunsSpec name task (Opened Spec name ∷ (reads ++ rest))
+      → W source rest
+      → RunsSpec name W (Opened Spec name ∷ (reads ++ rest))
 
-pub data SpecEnds (name : List ℕ) (task : Task) (by : Ended) : List Did → Type 0 where
+-- or all of it
+pub data SpecEnds (name : List ℕ) (W : List ℕ → List Did → Type 0) : List Did → Type 0 where
   whole_ends : (reads rest : List Did) (source : List ℕ)
       → ReadsSpec reads
       → GivesSource source reads
-      → SourceEnds source task by rest
-      → SpecEnds name task by (Opened Spec name ∷ (reads ++ rest))
+      → W source rest
+      → SpecEnds name W (Opened Spec name ∷ (reads ++ rest))
+
+-- what a command does, as far as it comes
+abbrev pub Does : Command → List Did → Type 0
+Does (command.Write spec f) = RunsSpec spec (λ source. RunsSource (Prints source f))
+Does (command.Run r) = RunsSpec r.spec (λ source. RunsSource (Monitors source r))
+Does (command.Generate n) = RunsAlone (λ text. text ≡ trace_text n)
+Does (command.Bench kind n) = RunsAlone (IsTallyText kind n)
+
+-- and how it ends
+pub record AloneEnds (P : List ℕ → Type 0) (S : Ending → Type 0) (by : Ended) (part : List Did) : Type 0 where
+  pub statistics : by.statistics ≡ []
+  pub done : AloneIsDone P S by.ending part
+
+abbrev pub DoesAll : Command → Ended → List Did → Type 0
+DoesAll (command.Write spec f) by = SpecEnds spec (λ source. SourceEnds source (HasWritten source f by) by)
+DoesAll (command.Run r) by = SpecEnds r.spec (λ source. SourceEnds source (HasMonitored source r by) by)
+DoesAll (command.Generate n) by = AloneEnds (λ text. text ≡ trace_text n) (λ by. ⊥) by
+DoesAll (command.Bench kind n) by = AloneEnds (IsTallyText kind n) (BenchStops kind n) by
 
 -- what the words ask for
-pub data RunsWords (words : List (List ℕ)) (part : List Did) : Type 0 where
-  unasked : part ≡ [] → RunsWords words part
-  asked : (name : List ℕ) (task : Task) → asked_of words ≡ Some (name, task) → RunsSpec name task part → RunsWords words part
-  samples : (a : Alone) → alone_of words ≡ Some a → RunsAlone a part → RunsWords words part
+abbrev pub DoesAsked : Option Command → List Did → Type 0
+DoesAsked None part = part ≡ []
+DoesAsked (Some c) part = Does c part
 
-pub data WordsEnd (words : List (List ℕ)) (by : Ended) (part : List Did) : Type 0 where
-  words_refused : by.ending ≡ ending.Words → by.statistics ≡ [] → requested words ≡ None → part ≡ [] → WordsEnd words by part
-  asked_ends : (name : List ℕ) (task : Task) → asked_of words ≡ Some (name, task) → SpecEnds name task by part → WordsEnd words by part
-  sampled : (a : Alone) → alone_of words ≡ Some a → by.statistics ≡ [] → AloneIsDone a by.ending part → WordsEnd words by part
+pub record WordsRefused (by : Ended) (part : List Did) : Type 0 where
+  pub ending : by.ending ≡ ending.Words
+  pub statistics : by.statistics ≡ []
+  pub nothing : part ≡ []
+
+abbrev pub DoesAllAsked : Option Command → Ended → List Did → Type 0
+DoesAllAsked None by part = WordsRefused by part
+DoesAllAsked (Some c) by part = DoesAll c by part

@@ -1,0 +1,52 @@
+// What the words ask for.
+
+use tsl_value::text::Text;
+
+/// What is written of a compiled specification.
+#[derive(Clone, Copy, PartialEq, Eq, Debug)]
+pub enum Form {
+    /// How many equations and how many updates run.
+    Check,
+    /// The running equations and the outputs.
+    Flat,
+    /// Which updates happen in place, and why the others copy.
+    Show,
+    /// The register code.
+    Code,
+}
+
+/// A kind of generated traces.
+#[derive(Clone, Copy)]
+pub enum Workload {
+    Seen,
+    Copy,
+}
+
+/// A run over a trace.
+#[derive(Drop)]
+pub struct Run {
+    /// The name of the specification.
+    pub spec: Text,
+    /// The name of the trace; `-`, the standard input, where the words name none.
+    pub trace: Text,
+    /// Times up to this one are closed at the end of the trace; 0 where the words don't say.
+    pub until: u64,
+    pub instants: u64,
+    pub bytes: u64,
+    pub strict: bool,
+    /// Whether the end tells how much was copied.
+    pub stats: bool,
+}
+
+/// What the words ask for.
+#[derive(Drop)]
+pub enum Command {
+    /// To write a text of the specification of this name.
+    Write { spec: Text, form: Form },
+    /// To monitor a trace.
+    Run(Run),
+    /// To write the sample trace with so many lines.
+    Generate { lines: u64 },
+    /// To tell what the specification of a kind does over that trace.
+    Bench { kind: Workload, lines: u64 },
+}

@@ -1,0 +1,33 @@
+-- What a command opens, what it is told at its end, and how far a run goes.
+use Rattle.std.specs.Prelude.{ℕ, Bool, false, List, [], ◌∷◌, ◌++◌, Option, Some}
+use Rattle.std.specs.Option.{option_map_or}
+use Rattle.command_words.specs.declared.command.Command.{Command}
+use Rattle.command_words.specs.declared.command.Command.TheVariants as command
+use Rattle.command_words.specs.declared.command.Run.{Run}
+use Rattle.trace_monitor.specs.declared.options.Options.{Options}
+use Rattle.tsl_world.specs.declared.outside.Slot.{Slot}
+use Rattle.tsl_world.specs.declared.outside.Slot.TheVariants as slot
+
+-- the file that is read whole first
+abbrev pub program_files : Command → List (Slot × List ℕ)
+program_files (command.Write spec form) = (slot.Spec, spec) ∷ []
+program_files (command.Run r) = (slot.Spec, r.spec) ∷ []
+program_files c = []
+
+-- and after it the trace
+abbrev pub trace_files : Command → List (Slot × List ℕ)
+trace_files (command.Run r) = (slot.Trace, r.trace) ∷ []
+trace_files c = []
+
+-- nothing where the words are not accepted
+abbrev pub for_asked : (Command → List (Slot × List ℕ)) → Option Command → List (Slot × List ℕ)
+for_asked files c = option_map_or files c []
+
+-- a run with statistics is asked for
+abbrev pub asks_statistics : Option Command → Bool
+asks_statistics (Some (command.Run r)) = r.stats
+asks_statistics c = false
+
+-- how far a run goes
+abbrev pub options_of : Run → Options
+options_of r = record { until = r.until; instants = r.instants; bytes = r.bytes; strict = r.strict }
