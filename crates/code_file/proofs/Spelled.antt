@@ -9,15 +9,12 @@ use Rattle.std.proofs.lemmas.List.Elements.{All-from_recursion}
 use Rattle.std.proofs.lemmas.Map.Keys.{sorted_from_strictly_increasing}
 use Rattle.std.proofs.lemmas.Map.Views.{length-le_from_below}
 use Rattle.std.proofs.lemmas.Option.{slice_get_within}
-use Rattle.tsl_value.specs.declared.operation.Update.{Update}
 use Rattle.tsl_value.specs.declared.scalar.ValueType.{ValueType}
 use Rattle.tsl_value.specs.declared.scalar.ValueType.TheVariants as value_type
 use Rattle.tsl_value.specs.declared.scalar.ScalarType.TheVariants as scalar_type
 use Rattle.lift_func.specs.BodyTree.{BodyTree, Literal, Argument, Absent, One, Two, Choice}
 use Rattle.lift_func.specs.Typing as kind
 use Rattle.lift_func.specs.Typing.{HasKind, ValueKind}
-use Rattle.lift_func.specs.Update as row
-use Rattle.lift_func.specs.Update.{UpdateTypes}
 use Rattle.flat_core.specs.declared.equation.Equation.{Equation}
 use Rattle.flat_core.specs.declared.equation.Op.{Op}
 use Rattle.flat_core.specs.declared.equation.Op.TheVariants as op
@@ -28,6 +25,7 @@ use Rattle.flat_core.specs.Typed.{IsTyped, kind_of}
 use Rattle.flat_core.specs.TypedSystem.{AreOfTypes}
 use Rattle.flat_core.specs.Updates.{is_running_update, is_update_at}
 use Rattle.flat_core.proofs.Finished.{typed_there}
+use Rattle.flat_core.proofs.FewArguments.{args_few}
 use Rattle.flat_core.proofs.UpdateOps.{no_update}
 use Rattle.flat_core.proofs.Members.{all_at, all_from, in-Contains}
 use Rattle.alias_rules.specs.Steps.{is_print, is_step, step_count}
@@ -35,37 +33,6 @@ use Rattle.translation_order.proofs.Lists.{few_below}
 use Rattle.register_code.specs.Code.{Code, IsCode}
 use Rattle.code_file.specs.Form.{HasSpelling, IsEquationForm, IsForm, IsName, IsSpelled, is_spelled}
 use Rattle.code_file.specs.inner.Writing.{CanSpell, HasArgumentsBelow, HasFewArguments, IsFormAt}
-
--- ---- arguments are few
-
-update_few : (u : Update) (t : ValueType) (ts : List ValueType) → UpdateTypes u t ts → length ts ≤ 2
-update_few u t ts (row.UpdateTypes.set_add is) = omega arith
-update_few u t ts (row.UpdateTypes.set_remove is) = omega arith
-update_few u t ts (row.UpdateTypes.map_add is) = omega arith
-update_few u t ts (row.UpdateTypes.map_remove is) = omega arith
-update_few u t ts row.UpdateTypes.queue_add = omega arith
-update_few u t ts row.UpdateTypes.queue_take = omega arith
-
-types_few : (o : Op) (types : List ValueType) (of : ValueType) → IsTyped o types of → length types ≤ 8
-types_few o types of typed.IsTyped.input = omega arith
-types_few o types of typed.IsTyped.nil = omega arith
-types_few o types of typed.IsTyped.unit = omega arith
-types_few o types of (typed.IsTyped.empty is) = omega arith
-types_few o types of typed.IsTyped.time = omega arith
-types_few o types of (typed.IsTyped.any low high) = high
-types_few o types of typed.IsTyped.last = omega arith
-types_few o types of typed.IsTyped.delay = omega arith
-types_few o types of typed.IsTyped.merge = omega arith
-types_few o types of typed.IsTyped.filter = omega arith
-types_few o types of (typed.IsTyped.pick is) = omega arith
-types_few o types of (typed.IsTyped.update {u = u} {t = t} {ts = ts} is fits) = let few = update_few u t ts fits in omega (arith, few)
-types_few o types of (typed.IsTyped.lift low high is) = high
-
-as_many : (equations : List Equation) (args : List ℕ) (types : List ValueType) → AreOfTypes equations args types → length args ≡ length types
-as_many equations [] [] of = refl
-as_many equations [] (t ∷ types) of = absurd of
-as_many equations (a ∷ args) [] of = absurd of
-as_many equations (a ∷ args) (t ∷ types) of = let rest = as_many equations args types of.1 in omega (arith, rest)
 
 -- ---- the arguments of a body that has a kind are there
 
@@ -99,12 +66,11 @@ module _ (s : System) (flat : IsFlat s) where
   pub can_spell : HasSpelling s → (i : ℕ) (e : Equation) → IsSpelled s i e → CanSpell e
   can_spell named i e spelled =
       let g = flat.complete.typed.each i e spelled.is in
-      let few = types_few e.op g.types e.of g.typed in
-      let same = as_many s.equations e.args g.types g.arguments in
+      let few = args_few s flat i e spelled.is in
       let there = typed_there s flat.complete.typed i e spelled.is in
       record {
         name = short_name e.name (named.named i e spelled);
-        few_args = omega (arith, few, same);
+        few_args = omega (arith, few);
         args = all_from (λ a. a < 2 ^ 32) e.args (λ a among. let low = all_at (λ b. b < length s.equations) e.args there a among in let most = flat.few_equations in omega (arith, low, most));
         short = all_at_place (λ f. HasShortBody f.op) s.equations flat.complete.short_texts i e spelled.is;
         few = op_args e.op g.types e.of g.typed;

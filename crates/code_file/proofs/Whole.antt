@@ -34,7 +34,7 @@ all_numbers : (P : ℕ → Type 0) (a n : ℕ) → ((i : ℕ) → i < a + n → 
 all_numbers P a zero each = tt
 all_numbers P a (suc n) each = (each a (omega arith), all_numbers P (a + 1) n (λ i low. each i (omega arith)))
 
-numbers_rise : (n : ℕ) → IsStrictlyIncreasing (range_with_len 0 n)
+pub numbers_rise : (n : ℕ) → IsStrictlyIncreasing (range_with_len 0 n)
 numbers_rise n = λ k lt.
     let size = length-range_with_len 0 n in
     let here = get_or-range_with_len 0 n k 0 (omega arith) in
@@ -43,7 +43,7 @@ numbers_rise n = λ k lt.
 
 -- ---- the equations
 
-abbrev entry_of : System → ℕ → Bool × Equation
+abbrev pub entry_of : System → ℕ → Bool × Equation
 entry_of s i = (runs s i, bare_in (runs s i) (equation s i))
 
 entry_in_again : (running : Bool) (o : Option Equation) (e : Equation) (rest : List ℕ) → o ≡ Some e → (IsTrue (is_spelled running e.op) → IsWhole e)
@@ -57,7 +57,7 @@ six_parts : (e f o u p q rest : List ℕ) → ((e ++ f) ++ ((o ++ u) ++ (p ++ q)
 six_parts e f o u p q rest = simp append_assoc
 
 module _ (c : Code) (form : IsForm c) where
-  abbrev s : System
+  abbrev pub s : System
   s = c.system
 
   whole_at : (i : ℕ) (e : Equation) → equation s i ≡ Some e → IsTrue (is_spelled (runs s i) e.op) → IsWhole e
@@ -112,10 +112,10 @@ module _ (c : Code) (form : IsForm c) where
       omega (arith, most, few)
 
   -- as the reader makes it
-  abbrev rebuilt : Code
+  abbrev pub rebuilt : Code
   rebuilt = code_of (map (entry_of s) (numbers s)) s.outputs c.in_place c.order
 
-  abbrev after_mark : List ℕ
+  abbrev pub after_mark : List ℕ
   after_mark = equations_bytes s ++ (outputs_bytes s.outputs ++ (list_bytes c.in_place ++ list_bytes c.order))
 
   counted : (n most : ℕ) (rest : List ℕ) → n ≤ most → n < 2 ^ 32 → count_at most (number n ++ rest) ≡ Some (n, rest)
@@ -127,7 +127,7 @@ module _ (c : Code) (form : IsForm c) where
   same_outputs [] = refl
   same_outputs (o ∷ os) = ap (λ more. o ∷ more) (same_outputs os)
 
-  code_again : (rest : List ℕ) → code_at (after_mark ++ rest) ≡ Some (rebuilt, rest)
+  pub code_again : (rest : List ℕ) → code_at (after_mark ++ rest) ≡ Some (rebuilt, rest)
   unfolding code_at
   code_again rest =
       let order = list_bytes c.order ++ rest in
@@ -174,7 +174,7 @@ module _ (c : Code) (form : IsForm c) where
   firsts_bare [] = refl
   firsts_bare (n ∷ ns) = ap (λ more. bare_in (runs s n) (equation s n) ∷ more) (firsts_bare ns)
 
-  bare_is : rebuilt ≡ bare c
+  pub bare_is : rebuilt ≡ bare c
   bare_is =
       let equations = firsts_bare (numbers s) in
       let running = running_is 0 (length s.equations) ∙ running_kept in

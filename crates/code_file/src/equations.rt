@@ -3,7 +3,6 @@
 ghost use Rattle.std.specs.Prelude.{◌≡◌, ◌<◌, ◌^◌, ◌++◌, ℕ, length, take, IfSome, IsTrue, OnErr, OnOk};
 ghost use Rattle.std.specs.List.{flat_map, range_with_len};
 ghost use Rattle.flat_core.specs.Complete.{HasShortBody};
-ghost use Rattle.trace_reader.specs.Reading as reading;
 ghost use Rattle.code_file.specs.Form.{HasSpelling, IsEquationForm, IsOpForm, IsPlaceForm, is_spelled};
 ghost use Rattle.code_file.specs.Spelling.{entry_at, entry_bytes, equations_bytes, fields, head_bytes, lift_bytes, optional_name};
 ghost use Rattle.code_file.specs.Spelling.{place_bytes};
@@ -11,7 +10,7 @@ ghost use Rattle.code_file.specs.inner.Writing.{CanSpell, HasFewArguments, IsFor
 
 use crate::body::{put_body, put_flag};
 use crate::numbers::{put_args, put_number, put_optional_name};
-use crate::types::{op_place, put_type};
+use crate::types::{is_input, op_place, put_type};
 use flat_core::equation::{Equation, Op};
 use flat_core::flat::Flat;
 use tsl_value::bytes::Bytes;
@@ -79,12 +78,6 @@ fn put_fields(equation: &Equation, out: &mut Bytes) -> Result<(), NoMemory>
     put_head(equation, out)?;
     put_args(equation.args.ids(), out)?;
     put_lift(&equation.op, out)
-}
-
-fn is_input(operation: &Op) -> bool
-    ensures { result ≡ reading.is_input operation.now }
-{
-    matches!(operation, Op::Input)
 }
 
 /// Appends an equation that runs, an input that does not, or that there is another.

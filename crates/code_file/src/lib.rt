@@ -7,5 +7,5 @@ pub mod fault;
 pub mod laws;
 pub mod limits;
 mod numbers;
-mod types;
+pub mod types;
 pub mod write;

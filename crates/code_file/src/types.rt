@@ -1,6 +1,7 @@
 // Types and operations by their places, and types written.
 
 ghost use Rattle.std.specs.Prelude.{◌≡◌, ◌++◌, length, take, OnErr, OnOk};
+ghost use Rattle.trace_reader.specs.Reading as reading;
 ghost use Rattle.code_file.specs.Spelling as seen;
 
 use flat_core::equation::Op;
@@ -11,7 +12,7 @@ use tsl_value::scalar::{KeyType, ScalarType, ValueType};
 
 /// What stands at the root of a body that is no literal and no argument.
 #[derive(Clone, Copy, PartialEq, Eq, Debug)]
-pub(crate) enum Operation {
+pub enum Operation {
     If,
     Absent,
     One(Unary),
@@ -124,4 +125,11 @@ pub(crate) fn op_place(operation: &Op) -> u8
         Op::QueueAdd => 16,
         Op::QueueTake => 17,
     }
+}
+
+/// Whether it is an input.
+pub fn is_input(operation: &Op) -> bool
+    ensures { result ≡ reading.is_input operation.now }
+{
+    matches!(operation, Op::Input)
 }

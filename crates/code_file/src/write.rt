@@ -17,7 +17,7 @@ use tsl_value::bytes::Bytes;
 use tsl_value::memory::NoMemory;
 
 /// The first bytes of each code file.
-pub(crate) const MARK: &[u8] = b"TSLCOD1\n";
+pub const MARK: &[u8] = b"TSLCOD1\n";
 
 fn put_output(output: &Output, out: &mut Bytes) -> Result<(), NoMemory>
     requires { length output.now.name < 2 ^ 32 }

@@ -83,11 +83,17 @@ abbrev pub at_place : {A : Type 0} → (A → ℕ) → List A → ℕ → Option
 at_place place [] b = None
 at_place place (x ∷ xs) b = if b == place x then Some x else at_place place xs b
 
+abbrev pub scalar_types : List ScalarType
+scalar_types = scalar_type.Unit ∷ scalar_type.Int ∷ scalar_type.Bool ∷ scalar_type.Text ∷ []
+
 unfoldable pub scalar_type_of : ℕ → Option ScalarType
-scalar_type_of b = at_place scalar_place (scalar_type.Unit ∷ scalar_type.Int ∷ scalar_type.Bool ∷ scalar_type.Text ∷ []) b
+scalar_type_of b = at_place scalar_place scalar_types b
+
+abbrev pub key_types : List KeyType
+key_types = key_type.Int ∷ key_type.Bool ∷ key_type.Text ∷ []
 
 unfoldable pub key_type_of : ℕ → Option KeyType
-key_type_of b = at_place key_place (key_type.Int ∷ key_type.Bool ∷ key_type.Text ∷ []) b
+key_type_of b = at_place key_place key_types b
 
 -- what a byte stands for
 abbrev pub byte_at : {A : Type 0} → (ℕ → Option A) → List ℕ → Read A
@@ -124,7 +130,7 @@ scalar_at scalar_type.Int bytes = wide_at bytes >>= λ n. Some (scalar.Int (cast
 scalar_at scalar_type.Bool bytes = flag_at bytes >>= λ b. Some (scalar.Bool b.0, b.1)
 scalar_at scalar_type.Text bytes = text_at bytes
 
-abbrev operations : List Operation
+abbrev pub operations : List Operation
 operations =
     operation.Two binary.Add ∷ operation.Two binary.Sub ∷ operation.Two binary.Mul ∷ operation.One unary.Neg ∷ operation.Two binary.Div
     ∷ operation.Two binary.Rem ∷ operation.Two binary.Eq ∷ operation.Two binary.Ne ∷ operation.Two binary.Lt ∷ operation.Two binary.Le
@@ -150,9 +156,15 @@ parts_at part (operation.One o) bytes = part bytes >>= λ a. few_at (One o a.0) 
 parts_at part (operation.Two o) bytes = part bytes >>= λ a. part a.1 >>= λ b. few_at (Two o a.0 b.0) b.1
 parts_at part operation.If bytes = part bytes >>= λ c. part c.1 >>= λ a. part a.1 >>= λ b. few_at (Choice c.0 a.0 b.0) b.1
 
+abbrev pub argument_at : List ℕ → Read BodyTree
+argument_at bytes = number_at bytes >>= λ n. Some (Argument n.0, n.1)
+
+abbrev pub literal_at : List ℕ → Read BodyTree
+literal_at bytes = byte_at scalar_type_of bytes >>= λ t. scalar_at t.0 t.1 >>= λ s. Some (Literal s.0, s.1)
+
 abbrev pub node_at : (List ℕ → Read BodyTree) → List ℕ → Read BodyTree
-node_at part (zero ∷ rest) = number_at rest >>= λ n. Some (Argument n.0, n.1)
-node_at part (suc zero ∷ rest) = byte_at scalar_type_of rest >>= λ t. scalar_at t.0 t.1 >>= λ s. Some (Literal s.0, s.1)
+node_at part (zero ∷ rest) = argument_at rest
+node_at part (suc zero ∷ rest) = literal_at rest
 node_at part (suc (suc zero) ∷ rest) = byte_at operation_of rest >>= λ o. parts_at part o.0 o.1
 node_at part _ = None
 
@@ -164,7 +176,7 @@ body_at (suc room) bytes = node_at (body_at room) bytes
 -- ---- equations
 
 -- the operations without a body
-abbrev plain_ops : List Op
+abbrev pub plain_ops : List Op
 plain_ops =
     op.Input ∷ op.Nil ∷ op.Unit ∷ op.Any ∷ op.Time ∷ op.Last ∷ op.Delay ∷ op.Merge ∷ op.Filter ∷ op.Pick ∷ op.Empty ∷ op.MapAdd
     ∷ op.MapRemove ∷ op.SetAdd ∷ op.SetRemove ∷ op.QueueAdd ∷ op.QueueTake ∷ []
@@ -172,11 +184,12 @@ plain_ops =
 unfoldable pub plain_op_of : ℕ → Option Op
 plain_op_of b = at_place op_place plain_ops b
 
+abbrev pub lift_at : List ℕ → Read Op
+lift_at bytes = flag_at bytes >>= λ strict. body_at MOST_NODES strict.1 >>= λ body. Some (op.Lift body.0 strict.0, body.1)
+
 -- the operation of a byte, with the body that stands after the arguments
 unfoldable pub op_at : ℕ → List ℕ → Read Op
-op_at b bytes =
-    if b == 3 then (flag_at bytes >>= λ strict. body_at MOST_NODES strict.1 >>= λ body. Some (op.Lift body.0 strict.0, body.1))
-    else (plain_op_of b >>= λ o. Some (o, bytes))
+op_at b bytes = if b == 3 then lift_at bytes else (plain_op_of b >>= λ o. Some (o, bytes))
 
 unfoldable pub place_at : List ℕ → Read Place
 place_at bytes = number_at bytes >>= λ line. number_at line.1 >>= λ column. Some (record { line = line.0; column = column.0 }, column.1)
@@ -198,11 +211,14 @@ fields_at (b ∷ rest) = fields_after b rest
 abbrev pub if_input : Equation × List ℕ → Read (Bool × Equation)
 if_input p = if is_input p.0.op then Some ((false, p.0), p.1) else None
 
+abbrev pub idle_at : List ℕ → Read (Bool × Equation)
+idle_at bytes = fields_at bytes >>= if_input
+
 -- an equation, and whether it runs
 unfoldable pub entry_read : List ℕ → Read (Bool × Equation)
 entry_read (zero ∷ rest) = Some ((false, nothing), rest)
 entry_read (suc zero ∷ rest) = fields_at rest >>= λ e. Some ((true, e.0), e.1)
-entry_read (suc (suc zero) ∷ rest) = fields_at rest >>= if_input
+entry_read (suc (suc zero) ∷ rest) = idle_at rest
 entry_read _ = None
 
 -- ---- the whole

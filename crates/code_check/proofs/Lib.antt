@@ -1,0 +1,5 @@
+pub mod Unchanged
+pub mod Whole
+pub mod Refused
+pub mod ReadFaults
+pub mod OneAnswer

@@ -1,0 +1,13 @@
+pub mod Taken
+pub mod TakenBodies
+pub mod TakenEntries
+pub mod TakenWhole
+pub mod Bodies
+pub mod Counting
+pub mod Loop
+pub mod Entering
+pub mod Rising
+pub mod Names
+pub mod Fitting
+pub mod Whole
+pub mod Formed

@@ -1,0 +1,3 @@
+pub mod Parts
+pub mod Fault
+pub mod inner

@@ -1,0 +1,6 @@
+//! A test of code files: what bytes are read as. There is nothing but tests: the check of a crate's tests proves the
+//! whole crate again, and here only they are proved.
+#![tactic(auto)]
+
+#[cfg(test)]
+mod tests;
