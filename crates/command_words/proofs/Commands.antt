@@ -1,12 +1,12 @@
 -- What the pieces in `clap`'s matches ask for, and what holds of it.
-use Rattle.std.proofs.Common.{◌≡◌, ◌∙◌, ap, sym, subst, refl, arith, ℕ, Bool, true, false, not, ◌&&◌, suc, List, [], ◌∷◌, length, drop, Option, Some, None, codes, ◌≤◌, if◌then◌else◌, slice_get, option_and_then, option_map, unwrap_or, Bor}
-use Rattle.std.specs.Prelude.{nat_le, is_some, IfSome}
+use Rattle.std.proofs.Common.{◌≡◌, ◌∙◌, ap, sym, subst, refl, arith, ℕ, Bool, true, false, ◌&&◌, List, length, drop, Option, Some, None, ◌≤◌, if◌then◌else◌, slice_get, option_and_then, option_map, unwrap_or}
+use Rattle.std.specs.Prelude.{nat_le, IfSome}
 use Rattle.std.specs.Str.Parse.{digits_value}
 use Rattle.std.specs.List.{list_any}
-use Rattle.std.proofs.lemmas.Bool.{le-leb, leb-true, and_parts}
+use Rattle.std.proofs.lemmas.Bool.{leb-true, and_parts}
 use Rattle.tsl_value.specs.Literal.{are_digits}
-use Rattle.tsl_value.specs.declared.limits.TheConstants.{MOST_TRACE_BYTES}
-use Rattle.clap.specs.Matches.{first_value, found_of}
+use Rattle.tsl_value.specs.declared.limits.TheConstants.{MOST_INSTANTS, MOST_TRACE_BYTES}
+use Rattle.clap.specs.Matches.{found_of}
 use Rattle.clap.specs.Walk.{Text}
 use Rattle.clap.specs.declared.parser.matches.ArgMatches.{ArgMatches}
 use Rattle.clap.specs.declared.parser.matches.Found.{Found}
@@ -19,72 +19,16 @@ use Rattle.command_words.specs.declared.command.Run.{Run}
 use Rattle.command_words.specs.declared.command.Workload.{Workload}
 use Rattle.command_words.specs.declared.words.Verb.{Verb}
 use Rattle.command_words.specs.declared.words.Verb.TheVariants as verb
-use Rattle.command_words.specs.Words.{IsLimited, IsLimitedRun, IsLimitedCount, until_name, instants_name, bytes_name, strict_flag, stats_flag, Piece, plains, values, uses, are_plain, fits, read, one_room, run_room, pair_room, number, number_or, run_by, run_of, spec_of, kind_of as trace_kind, counted_by, counted_of, first_verb, asked_by, command_of, is_empty}
-use Rattle.command_words.specs.declared.limits.TheConstants.{MOST_TIME, MOST_INSTANTS, MOST_LINES}
+use Rattle.command_words.specs.Words.{IsLimited, IsLimitedRun, IsLimitedCount, until_name, instants_name, bytes_name, strict_flag, stats_flag, Piece, plains, values, uses, fits, read, one_room, run_room, pair_room, number, number_or, run_by, run_of, spec_of, kind_of as trace_kind, counted_by, counted_of, first_verb, asked_by, command_of, is_empty}
+use Rattle.command_words.specs.declared.limits.TheConstants.{MOST_TIME, MOST_LINES}
 
-fits_run : (ps : List Piece) (found : Found) → Holds ps found → fits run_room ps ≡ true
-fits_run ps found h = rw (le-leb _ _ h.some_word, le-leb _ _ h.few_words, le-leb _ _ (h.one_value until_name), le-leb _ _ (h.one_value instants_name), le-leb _ _ (h.one_value bytes_name), le-leb _ _ (h.one_use strict_flag), le-leb _ _ (h.one_use stats_flag)) refl
-
-pub run_held : (ps : List Piece) (found : Found) → Holds ps found → option_and_then run_of (if fits run_room ps then Some ps else None) ≡ run_found found (nat_le 1 (length (uses strict_flag ps))) (nat_le 1 (length (uses stats_flag ps)))
-run_held ps found h = ap (λ b. option_and_then run_of (if b then Some ps else None)) (fits_run ps found h) ∙ same
+-- what is asked for by pieces that have room
+pub run_held : (ps : List Piece) (found : Found) → Holds ps found → fits run_room ps ≡ true
+    → option_and_then run_of (if fits run_room ps then Some ps else None) ≡ run_found found (nat_le 1 (length (uses strict_flag ps))) (nat_le 1 (length (uses stats_flag ps)))
+run_held ps found h room = ap (λ b. option_and_then run_of (if b then Some ps else None)) room ∙ same
   where
     same : run_of ps ≡ run_found found (nat_le 1 (length (uses strict_flag ps))) (nat_le 1 (length (uses stats_flag ps)))
     same = rw (h.first, h.second, h.named until_name, h.named instants_name, h.named bytes_name) refl
-
-abbrev told_spec : List Piece → Option Text
-told_spec ps = option_and_then spec_of (if fits one_room ps then Some ps else None)
-
-unless : (a b c : Bool) → c ≡ false → (a && (b && c)) ≡ false
-unless true true c e = e
-unless true false c e = refl
-unless false b c e = refl
-
-negated : (b : Bool) → not b ≡ true → b ≡ false
-negated true h = let bad : false ≡ true = h in cc
-negated false h = refl
-
-affirmed : (b : Bool) → not b ≡ false → b ≡ true
-affirmed true h = refl
-affirmed false h = let bad : true ≡ false = h in cc
-
-pub spec_with_options : (ps : List Piece) → not (are_plain ps) ≡ true → None ≡ told_spec ps
-spec_with_options ps h = sym (ap (λ b. option_and_then spec_of (if b then Some ps else None)) (unless (nat_le 1 (length (plains ps))) (nat_le (length (plains ps)) 1) (are_plain ps) (negated (are_plain ps) h)))
-
-by_plains : (ps : List Piece) (xs : List Text) → plains ps ≡ xs → are_plain ps ≡ true → is_some (slice_get xs 1) ≡ false → 1 ≤ length xs → slice_get (plains ps) 0 ≡ told_spec ps
-by_plains ps [] e p s some = let bad : ⊥ = omega arith in absurd bad
-by_plains ps (x ∷ []) e p s some =
-    let is : fits one_room ps ≡ true = rw (e, p) refl in
-    sym (ap (λ b. option_and_then spec_of (if b then Some ps else None)) is)
-by_plains ps (x ∷ y ∷ xs) e p s some = let bad : true ≡ false = s in cc
-
-now_some : (o : Option (Bor Text)) (t : Option Text) → option_map (λ b. b.now) o ≡ t → is_some t ≡ is_some o
-now_some None t e = ap is_some (sym e)
-now_some (Some b) t e = ap is_some (sym e)
-
-pub spec_alone : (ps : List Piece) (found : Found) (spec trace : Option (Bor Text)) → Holds ps found → option_map (λ b. b.now) spec ≡ first_value found (codes "spec")
-    → option_map (λ b. b.now) trace ≡ first_value found (codes "trace") → is_some trace ≡ false → not (are_plain ps) ≡ false → option_map (λ b. b.now) spec ≡ told_spec ps
-spec_alone ps found spec trace h a b none p =
-    a ∙ (h.first ∙ by_plains ps (plains ps) refl (affirmed (are_plain ps) p) (now_some trace (slice_get (plains ps) 1) (b ∙ h.second) ∙ none) h.some_word)
-
-two_words : (ps : List Piece) (xs : List Text) → plains ps ≡ xs → is_some (slice_get xs 1) ≡ true → fits one_room ps ≡ false
-two_words ps [] e s = let bad : false ≡ true = s in cc
-two_words ps (x ∷ []) e s = let bad : false ≡ true = s in cc
-two_words ps (x ∷ y ∷ xs) e s = many (nat_le (length (plains ps)) 1) refl
-  where
-    many : (q : Bool) → nat_le (length (plains ps)) 1 ≡ q → (nat_le 1 (length (plains ps)) && (q && are_plain ps)) ≡ false
-    many true h =
-        let few : length (plains ps) ≤ 1 = leb-true (length (plains ps)) 1 h in
-        let two : length (plains ps) ≡ suc (suc (length xs)) = ap length e in
-        let bad : ⊥ = omega arith in absurd bad
-    many false h = first (nat_le 1 (length (plains ps)))
-      where
-        first : (q : Bool) → (q && false) ≡ false
-        first true = refl
-        first false = refl
-
-pub spec_with_more : (ps : List Piece) (found : Found) (trace : Option (Bor Text)) → Holds ps found → option_map (λ b. b.now) trace ≡ first_value found (codes "trace") → is_some trace ≡ true → None ≡ told_spec ps
-spec_with_more ps found trace h b some =
-    sym (ap (λ b. option_and_then spec_of (if b then Some ps else None)) (two_words ps (plains ps) refl (now_some trace (slice_get (plains ps) 1) (b ∙ h.second) ∙ some)))
 
 pub refused_by : (words : List Text) (v : Verb) → IsRefused words → asked_by v words ≡ None
 refused_by words verb.Run h = rw h.run refl

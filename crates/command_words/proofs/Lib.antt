@@ -3,3 +3,4 @@ pub mod WordRows
 pub mod WordTurns
 pub mod WordLemmas
 pub mod Commands
+pub mod Rooms

@@ -1,12 +1,12 @@
 -- What `clap` makes of the words of a run: where it refuses them, and else the pieces in its matches.
-use Rattle.std.proofs.Common.{◌≡◌, ◌∙◌, ap, sym, subst, refl, arith, ℕ, Bool, true, false, not, ◌||◌, ◌==◌, ◌+◌, suc, List, [], ◌∷◌, ◌++◌, length, map, drop, take, Option, Some, None, codes, fold, ◌≤◌, if◌then◌else◌, option_and_then, unwrap_or}
+use Rattle.std.proofs.Common.{◌≡◌, ◌∙◌, ap, sym, subst, refl, arith, ℕ, Bool, true, false, not, ◌||◌, ◌==◌, ◌+◌, suc, List, [], ◌∷◌, ◌++◌, length, map, drop, take, Option, Some, None, codes, fold, ◌≤◌, if◌then◌else◌, option_and_then, slice_get, unwrap_or}
 use Rattle.std.specs.Str.{bytes_eq, IsUtf8}
 use Rattle.std.specs.List.{All, before_first, prefix_len}
 use Rattle.std.proofs.lemmas.Bool.{eqb-true, eq-eqb, le-leb, leb-true, and_parts}
 use Rattle.std.proofs.lemmas.List.{append-nil, append_assoc}
 use Rattle.clap.specs.Walk.{nothing_held, rows_of, Row, Rule, Text, Waiting, Walk, idle, option as taking, walked, value, arg_by_index, settled_rows, to_positional, has_row, with_values, more_values, with_default, default_rows, reading_by, is_empty, first_of, one_of}
 use Rattle.clap.specs.Lexer.{long_of, short_of}
-use Rattle.clap.specs.Simple.{App, HasMatchesOf, is_simple, matches_of, built, filled, with_index}
+use Rattle.clap.specs.Simple.{App, HasMatchesOf, is_simple, matches_of, built, filled, new_rule, with_index}
 use Rattle.clap.specs.Faults.{check_fault, fault_of, level_fault, defaults_fault, default_fault, given_default_fault, turn_fault, walk_fault, settle_fault, step_fault}
 use Rattle.std.specs.Prelude.{nat_le}
 use Rattle.clap.proofs.FaultLemmas.{leaf_fault}
@@ -17,10 +17,11 @@ use Rattle.clap.specs.Matches.{found_of, first_value}
 use Rattle.clap.specs.declared.error.kind.ErrorKind.{ErrorKind}
 use Rattle.clap.specs.declared.builder.value_parser.Reading.TheVariants.{AsWritten}
 use Rattle.clap.specs.declared.parser.matches.ValueSource.TheVariants.{DefaultValue}
-use Rattle.command_words.specs.inner.Reader.{IsRefused, Matches, flag_id, flag_rule, id_of, option_rule, run_app, spec_rule, trace_rule}
-use Rattle.command_words.specs.Words.{Room, Name, until_name, instants_name, bytes_name, Flag, strict_flag, stats_flag, Piece, plain, option, flag, Class, whole, waits, ends, refused, is_dashed, is_equals, value_in, class_of, named_class, before, pieces, plains, values, uses, fits, read, one_room, run_room, pair_room}
-use Rattle.command_words.proofs.WordRows.{row, flag_row, rows_from, any_row, has_chosen, flag_other, chosen_name, chosen_spec, chosen_trace, defaulted, flag_no_spec, flag_no_trace, fresh_row, rows_more, has_name, has_flag, Fits, plains_then, fits_plain, fits_flag, fits_option, unfit_plain, unfit_flag, unfit_option, default_row, final, first_final, first_taken, second_dropped, flag_final, spec_given}
-use Rattle.command_words.proofs.WordTurns.{is_exact, spec_slot, trace_slot, name_slot, S, R, HasFault, left_fault, Look, look, Named, named, rest_name, name_after, value_after, at, fault_from, end_rows, pass_turn, stop_turn, pass_rows, held, quiet_settle, loud_settle, slot_rows, empty_settle, positional_spec, positional_trace, spec_placed, trace_placed, plain_turn, plain_walked, trailing_turn, trailing_walked, end_turn, end_walked, value_turn, value_walked, short_turn, first_char, long_turn, long_turn_is, long_walk, long_walk_is, loud_long, unknown_long, option_turn, option_walked, joined_turn, joined_again, joined_walked, flag_turn, flag_again, flag_valued, flag_walked, Texts, loud_trailing, loud_idle, undashed, end_mark, long, short, to_option, to_flag, to_none}
+use Rattle.command_words.specs.inner.Reader.{IsRefused, Matches, flag_id, flag_rule, id_of, option_rule, run_app, first_rule, word_id}
+use Rattle.command_words.specs.Words.{Name, until_name, instants_name, bytes_name, Flag, strict_flag, stats_flag, Piece, plain, option, flag, Class, whole, waits, ends, refused, is_dashed, is_equals, value_in, class_of, named_class, before, pieces, plains, values, uses, fits, read, one_room, run_room, pair_room}
+use Rattle.command_words.specs.declared.room.Room.{Room}
+use Rattle.command_words.proofs.WordRows.{row, flag_row, rows_from, any_row, has_chosen, flag_other, chosen_name, chosen_words, defaulted, flag_no_word, fresh_row, rows_more, has_name, has_flag, Fits, plains_then, fits_plain, fits_flag, fits_option, unfit_plain, unfit_flag, unfit_option, default_row, final, first_final, first_word, second_word, third_word, fourth_word, flag_final, first_given, words_at}
+use Rattle.command_words.proofs.WordTurns.{is_exact, Place, first_place, second_place, third_place, fourth_place, word_slot, name_slot, S, R, HasFault, left_fault, Look, look, Named, named, rest_name, name_after, value_after, at, fault_from, end_rows, pass_turn, stop_turn, pass_rows, held, quiet_settle, loud_settle, slot_rows, empty_settle, positional_step, word_placed, plain_turn, plain_walked, trailing_turn, trailing_walked, end_turn, end_walked, value_turn, value_walked, short_turn, first_char, long_turn, long_turn_is, long_walk, long_walk_is, loud_long, unknown_long, option_turn, option_walked, joined_turn, joined_again, joined_walked, flag_turn, flag_again, flag_valued, flag_walked, Texts, loud_trailing, loud_idle, undashed, end_mark, long, short, to_option, to_flag, to_none}
 
 -- ---- the pieces so far
 
@@ -32,7 +33,9 @@ record Stands (done : List Piece) (rows : List Row) (pending : Option (Text × L
 abbrev position_of : List Text → ℕ
 position_of [] = 1
 position_of (a ∷ []) = 2
-position_of (a ∷ b ∷ more) = 3
+position_of (a ∷ b ∷ []) = 3
+position_of (a ∷ b ∷ c ∷ []) = 4
+position_of (a ∷ b ∷ c ∷ d ∷ more) = 5
 
 -- one plain word more
 data PlainStep (done : List Piece) (rows : List Row) (pending : Option (Text × List Text)) (word : Text) (waiting : Waiting) (t : Bool) : Type 0 where
@@ -42,7 +45,7 @@ data PlainStep (done : List Piece) (rows : List Row) (pending : Option (Text × 
       → Stands (done ++ plain word ∷ []) (settled_rows R pending rows) (Some (id, word ∷ []))
       → Fits (done ++ plain word ∷ [])
       → PlainStep done rows pending word waiting t
-  full : HasFault (step_fault S (position_of (plains done)) (held rows pending) value) → 2 ≤ length (plains done) → PlainStep done rows pending word waiting t
+  full : HasFault (step_fault S (position_of (plains done)) (held rows pending) value) → 4 ≤ length (plains done) → PlainStep done rows pending word waiting t
 
 plain_step : (done : List Piece) (rows : List Row) (pending : Option (Text × List Text)) (word : Text) (waiting : Waiting) (t : Bool) → Fits done → Stands done rows pending
     → PlainStep done rows pending word waiting t
@@ -54,26 +57,28 @@ plain_step done rows pending word waiting t f s = go (plains done) refl
     after : (xs : List Text) → plains done ≡ xs → plains (done ++ plain word ∷ []) ≡ xs ++ word ∷ []
     after xs e = plains_then done (plain word ∷ []) ∙ ap (λ l. l ++ word ∷ []) e
 
+    step_at : (k : ℕ) → Place k → (xs : List Text) → plains done ≡ xs → position_of xs ≡ suc k → position_of (xs ++ word ∷ []) ≡ suc (suc k) → words_at k 0 xs ≡ [] → length xs ≡ k → k ≤ 3
+        → PlainStep done rows pending word waiting t
+    step_at k p xs e place next none count low =
+        let fresh : has_row (word_id k) now ≡ false = ap (has_row (word_id k)) s.settled_are ∙ (has_chosen (word_id k) (rows_from 0 done) ∙ (ap any_row (chosen_words k done) ∙ ap (λ l. any_row (map (row (word_id k)) (words_at k 0 l))) e ∙ ap (λ l. any_row (map (row (word_id k)) l)) none)) in
+        let few : length (plains done) ≤ 3 = rw e (omega arith) in
+        let here : position_of (plains done) ≡ suc k = ap position_of e ∙ place in
+        let there : position_of (plains (done ++ plain word ∷ [])) ≡ suc (suc k) = ap position_of (after xs e) ∙ next in
+        let same : length (plains done) ≡ k = ap length e ∙ count in
+        let counted : 0 + length (plains done) ≡ k = omega arith in
+        placed (word_id k) (rw here (positional_step k p rows pending ∙ s.quiet)) (rw (here, there) (word_placed k p rows pending word waiting t))
+        (record {
+          quiet = quiet_settle (word_slot k) now word fresh;
+          settled_are = slot_rows (word_slot k) now word fresh ∙ (ap (λ l. l ++ row (word_id k) word ∷ []) s.settled_are ∙ sym (rows_more 0 done (plain word ∷ []) ∙ ap (λ n. rows_from 0 done ++ rows_from n (plain word ∷ [])) counted));
+        })
+        (fits_plain done word f few)
+
     go : (xs : List Text) → plains done ≡ xs → PlainStep done rows pending word waiting t
-    go [] e =
-        let fresh : has_row (codes "spec") now ≡ false = ap (has_row (codes "spec")) s.settled_are ∙ (has_chosen (codes "spec") (rows_from 0 done) ∙ (ap any_row (chosen_spec done) ∙ ap (λ l. any_row (map (row (codes "spec")) (take 1 l))) e)) in
-        let few : length (plains done) ≤ 1 = rw e (omega arith) in
-        placed (codes "spec") (rw e (positional_spec rows pending ∙ s.quiet)) (rw (e, after [] e) (spec_placed rows pending word waiting t))
-        (record {
-          quiet = quiet_settle spec_slot now word fresh;
-          settled_are = slot_rows spec_slot now word fresh ∙ (ap (λ l. l ++ row (codes "spec") word ∷ []) s.settled_are ∙ sym (rows_more 0 done (plain word ∷ []) ∙ ap (λ l. rows_from 0 done ++ rows_from (0 + length l) (plain word ∷ [])) e));
-        })
-        (fits_plain done word f few)
-    go (a ∷ []) e =
-        let fresh : has_row (codes "trace") now ≡ false = ap (has_row (codes "trace")) s.settled_are ∙ (has_chosen (codes "trace") (rows_from 0 done) ∙ (ap any_row (chosen_trace done) ∙ ap (λ l. any_row (map (row (codes "trace")) (drop 1 l))) e)) in
-        let few : length (plains done) ≤ 1 = rw e (omega arith) in
-        placed (codes "trace") (rw e (positional_trace rows pending ∙ s.quiet)) (rw (e, after (a ∷ []) e) (trace_placed rows pending word waiting t))
-        (record {
-          quiet = quiet_settle trace_slot now word fresh;
-          settled_are = slot_rows trace_slot now word fresh ∙ (ap (λ l. l ++ row (codes "trace") word ∷ []) s.settled_are ∙ sym (rows_more 0 done (plain word ∷ []) ∙ ap (λ l. rows_from 0 done ++ rows_from (0 + length l) (plain word ∷ [])) e));
-        })
-        (fits_plain done word f few)
-    go (a ∷ b ∷ more) e = full (rw e tt) (rw e (omega arith))
+    go [] e = step_at 0 first_place [] e refl refl refl refl (omega arith)
+    go (a ∷ []) e = step_at 1 second_place (a ∷ []) e refl refl refl refl (omega arith)
+    go (a ∷ b ∷ []) e = step_at 2 third_place (a ∷ b ∷ []) e refl refl refl refl (omega arith)
+    go (a ∷ b ∷ c ∷ []) e = step_at 3 fourth_place (a ∷ b ∷ c ∷ []) e refl refl refl refl (omega arith)
+    go (a ∷ b ∷ c ∷ d ∷ more) e = full (rw e tt) (rw e (omega arith))
 
 -- ---- the whole walk
 
@@ -360,19 +365,20 @@ quiet_default a rest rows e = ap (λ k. or_else k (defaults_fault (with_default 
     none : default_fault rows a ≡ []
     none = let empty : is_empty a.defaults ≡ true = ap is_empty e in ap (λ b. if has_row a.id rows || b then [] else given_default_fault a a.defaults) empty ∙ go (has_row a.id rows)
 
-abbrev spec_arg : Rule
-spec_arg = with_index 1 (filled spec_rule)
+abbrev first_arg : Rule
+first_arg = with_index 1 (filled first_rule)
 
-abbrev trace_arg : Rule
-trace_arg = with_index 2 (filled trace_rule)
+-- a plain word that may be left out
+abbrev word_arg : ℕ → Rule
+word_arg k = with_index (suc k) (filled (new_rule (word_id k)))
 
 abbrev option_arg : Text → Rule
-option_arg name = with_index 3 (filled (option_rule name))
+option_arg name = with_index 5 (filled (option_rule name))
 
 abbrev flag_arg : Flag → Rule
-flag_arg f = with_index 3 (filled (flag_rule (flag_id f)))
+flag_arg f = with_index 5 (filled (flag_rule (flag_id f)))
 
-rules_are : R ≡ spec_arg ∷ trace_arg ∷ option_arg (codes "until") ∷ option_arg (codes "instants") ∷ option_arg (codes "bytes") ∷ flag_arg strict_flag ∷ flag_arg stats_flag ∷ []
+rules_are : R ≡ first_arg ∷ word_arg 1 ∷ word_arg 2 ∷ word_arg 3 ∷ option_arg (codes "until") ∷ option_arg (codes "instants") ∷ option_arg (codes "bytes") ∷ flag_arg strict_flag ∷ flag_arg stats_flag ∷ []
 rules_are = refl
 
 flag_default : (f : Flag) (rows : List Row) → with_default rows (flag_arg f) ≡ defaulted f rows
@@ -389,15 +395,15 @@ flag_default stats_flag rows = go (has_row (codes "stats") rows) refl
 
 finished_is : (rows : List Row) → fold with_default rows R ≡ final rows
 finished_is rows =
-    past_default spec_arg (drop 1 R) rows refl ∙ (past_default trace_arg (drop 2 R) rows refl ∙ (past_default (option_arg (codes "until")) (drop 3 R) rows refl
-    ∙ (past_default (option_arg (codes "instants")) (drop 4 R) rows refl ∙ (past_default (option_arg (codes "bytes")) (drop 5 R) rows refl
-    ∙ (ap (λ l. with_default l (flag_arg stats_flag)) (flag_default strict_flag rows) ∙ flag_default stats_flag (defaulted strict_flag rows))))))
+    past_default first_arg (drop 1 R) rows refl ∙ (past_default (word_arg 1) (drop 2 R) rows refl ∙ (past_default (word_arg 2) (drop 3 R) rows refl ∙ (past_default (word_arg 3) (drop 4 R) rows refl
+    ∙ (past_default (option_arg (codes "until")) (drop 5 R) rows refl ∙ (past_default (option_arg (codes "instants")) (drop 6 R) rows refl ∙ (past_default (option_arg (codes "bytes")) (drop 7 R) rows refl
+    ∙ (ap (λ l. with_default l (flag_arg stats_flag)) (flag_default strict_flag rows) ∙ flag_default stats_flag (defaulted strict_flag rows))))))))
 
 defaults_quiet : (rows : List Row) → defaults_fault rows R ≡ []
 unfolding defaults_fault
 defaults_quiet rows =
-    quiet_default spec_arg (drop 1 R) rows refl ∙ (quiet_default trace_arg (drop 2 R) rows refl ∙ (quiet_default (option_arg (codes "until")) (drop 3 R) rows refl
-    ∙ (quiet_default (option_arg (codes "instants")) (drop 4 R) rows refl ∙ (quiet_default (option_arg (codes "bytes")) (drop 5 R) rows refl ∙ flags))))
+    quiet_default first_arg (drop 1 R) rows refl ∙ (quiet_default (word_arg 1) (drop 2 R) rows refl ∙ (quiet_default (word_arg 2) (drop 3 R) rows refl ∙ (quiet_default (word_arg 3) (drop 4 R) rows refl
+    ∙ (quiet_default (option_arg (codes "until")) (drop 5 R) rows refl ∙ (quiet_default (option_arg (codes "instants")) (drop 6 R) rows refl ∙ (quiet_default (option_arg (codes "bytes")) (drop 7 R) rows refl ∙ flags))))))
   where
     go : (q : Bool) (k : Kinds) → or_else (if q || false then [] else []) k ≡ k
     go true k = refl
@@ -409,26 +415,28 @@ defaults_quiet rows =
 -- ---- the two answers
 
 -- pieces that have room where each option and each flag stands once at most
-fits_room : (room : Room) (ps : List Piece) → room.most ≤ 2 → room.options ≤ 1 → room.flags ≤ 1 → fits room ps ≡ true → Fits ps
-fits_room room ps most options flags h =
+fits_room : (room : Room) (ps : List Piece) → room.most ≤ 4 → room.limits ≤ 1 → room.others ≤ 1 → fits room ps ≡ true → Fits ps
+fits_room room ps most limits others h =
     let a = and_parts _ _ h in
     let b = and_parts _ _ a.1 in
     let c = and_parts _ _ b.1 in
-    let d = and_parts _ _ c.1 in
-    let e = and_parts _ _ d.1 in
-    let g = and_parts _ _ e.1 in
+    let until = and_parts _ _ c.0 in
+    let instants = and_parts _ _ until.1 in
+    let bytes = and_parts _ _ instants.1 in
+    let strict = and_parts _ _ c.1 in
+    let stats = and_parts _ _ strict.1 in
     record {
       words = let few = leb-true (length (plains ps)) room.most b.0 in omega arith;
-      options = each (leb-true _ room.options c.0) (leb-true _ room.options d.0) (leb-true _ room.options e.0);
-      once = single (leb-true _ room.flags g.0) (leb-true _ room.flags g.1);
+      options = each (leb-true _ room.others until.0) (leb-true _ room.limits instants.0) (leb-true _ room.limits bytes.0);
+      once = single (leb-true _ room.limits strict.0) (leb-true _ room.others stats.0);
     }
   where
-    each : length (values until_name ps) ≤ room.options → length (values instants_name ps) ≤ room.options → length (values bytes_name ps) ≤ room.options → (name : Name) → length (values name ps) ≤ 1
+    each : length (values until_name ps) ≤ room.others → length (values instants_name ps) ≤ room.limits → length (values bytes_name ps) ≤ room.limits → (name : Name) → length (values name ps) ≤ 1
     each a b c until_name = omega arith
     each a b c instants_name = omega arith
     each a b c bytes_name = omega arith
 
-    single : length (uses strict_flag ps) ≤ room.flags → length (uses stats_flag ps) ≤ room.flags → (f : Flag) → length (uses f ps) ≤ 1
+    single : length (uses strict_flag ps) ≤ room.limits → length (uses stats_flag ps) ≤ room.others → (f : Flag) → length (uses f ps) ≤ 1
     single a b strict_flag = omega arith
     single a b stats_flag = omega arith
 
@@ -438,11 +446,11 @@ pub record FitsNone (ps : List Piece) : Type 0 where
   pub spec : fits one_room ps ≡ false
   pub count : fits pair_room ps ≡ false
 
-unfit_room : (room : Room) (ps : List Piece) → room.most ≤ 2 → room.options ≤ 1 → room.flags ≤ 1 → (Fits ps → ⊥) → fits room ps ≡ false
-unfit_room room ps most options flags unfit = go (fits room ps) refl
+unfit_room : (room : Room) (ps : List Piece) → room.most ≤ 4 → room.limits ≤ 1 → room.others ≤ 1 → (Fits ps → ⊥) → fits room ps ≡ false
+unfit_room room ps most limits others unfit = go (fits room ps) refl
   where
     go : (q : Bool) → fits room ps ≡ q → q ≡ false
-    go true h = absurd (unfit (fits_room room ps most options flags h))
+    go true h = absurd (unfit (fits_room room ps most limits others h))
     go false h = refl
 
 unfit_all : (ps : List Piece) → (Fits ps → ⊥) → FitsNone ps
@@ -490,7 +498,7 @@ level_is words rows quiet are =
     checks l = or_else (defaults_fault l R) (check_fault S (fold with_default l R) false)
 
 check_is : (ps : List Piece) (xs : List Text) → plains ps ≡ xs → check_fault S (final (rows_from 0 ps)) false ≡ check_kinds false false (not (nat_le 1 (length xs)) || false)
-check_is ps xs e = ap (λ b. check_kinds false false (not b || false)) (spec_given ps xs e)
+check_is ps xs e = ap (λ b. check_kinds false false (not b || false)) (first_given ps xs e)
 
 -- what the walk says of the words
 data Answered (words : List Text) : Type 0 where
@@ -549,12 +557,16 @@ taken_asks app words m is utf8 quiet has = go (answer (drop 1 words) (texts_afte
         let simple : is_simple app ≡ true = ap is_simple is ∙ (and_parts _ _ is_exact).0 in
         let taken : matches_of run_app words ≡ final (rows_from 0 ps) = ap (λ l. fold with_default l R) rows ∙ finished_is (rows_from 0 ps) in
         let held_are : rows_of found ≡ final (rows_from 0 ps) = (has simple).0 ∙ (ap (λ a. matches_of a words) is ∙ taken) in
-        let first : (id : Text) → first_value found id ≡ first_of id (final (rows_from 0 ps)) = λ id. first_value-rows found id ∙ ap (first_of id) held_are in (
+        let first : (id : Text) → first_value found id ≡ first_of id (final (rows_from 0 ps)) = λ id. first_value-rows found id ∙ ap (first_of id) held_are in
+        let word : (k : ℕ) → first_value found (word_id k) ≡ slice_get (words_at k 0 (plains ps)) 0 =
+        λ k. first (word_id k) ∙ first_final (word_id k) (rows_from 0 ps) (words_at k 0 (plains ps)) (flag_no_word k) (chosen_words k ps) in (
           ps,
           told,
           record {
-            first = first (codes "spec") ∙ (first_final (codes "spec") (rows_from 0 ps) (take 1 (plains ps)) flag_no_spec (chosen_spec ps) ∙ first_taken (plains ps));
-            second = first (codes "trace") ∙ (first_final (codes "trace") (rows_from 0 ps) (drop 1 (plains ps)) flag_no_trace (chosen_trace ps) ∙ second_dropped (plains ps));
+            first = word 0 ∙ first_word (plains ps);
+            second = word 1 ∙ second_word (plains ps);
+            third = word 2 ∙ third_word (plains ps);
+            fourth = word 3 ∙ fourth_word (plains ps);
             named = λ name. first (id_of name) ∙ first_final (id_of name) (rows_from 0 ps) (values name ps) (λ f. flag_other f name) (chosen_name name 0 ps);
             flags = λ u. one_text-rows found (flag_id u) ∙ (ap (one_of (flag_id u)) held_are ∙ flag_final u ps);
             some_word = some;

@@ -1,8 +1,9 @@
 -- The rows of `clap`'s matches that stand for pieces, and how often each piece stands.
-use Rattle.std.proofs.Common.{◌≡◌, ◌∙◌, ap, sym, refl, arith, ℕ, Bool, true, false, ◌||◌, ◌+◌, zero, suc, List, [], ◌∷◌, ◌++◌, length, map, drop, take, Some, None, codes, find, ◌≤◌, if◌then◌else◌, slice_get, option_and_then}
+use Rattle.std.proofs.Common.{◌≡◌, ◌∙◌, ap, sym, refl, arith, ℕ, Bool, true, false, ◌||◌, ◌+◌, zero, suc, List, [], ◌∷◌, ◌++◌, length, map, Some, None, codes, find, ◌≤◌, if◌then◌else◌, slice_get, option_and_then}
 use Rattle.std.proofs.lemmas.List.{append-nil, length-append}
 use Rattle.std.specs.Str.{bytes_eq}
 use Rattle.std.proofs.lemmas.Bool.{le-leb}
+use Rattle.std.proofs.lemmas.Slice.Eq.{bytes_eq-Decides}
 use Rattle.clap.specs.Walk.{Row, Text, has_row, at_row, without, with_values, more_values, first_of, one_of, row_text}
 use Rattle.clap.specs.Takes.{is_given}
 use Rattle.clap.specs.Values.{bool_text}
@@ -11,7 +12,7 @@ use Rattle.std.specs.Option.{option_map_or}
 use Rattle.std.specs.Prelude.{nat_le}
 use Rattle.clap.specs.declared.builder.value_parser.Reading.TheVariants.{AsWritten}
 use Rattle.clap.specs.declared.parser.matches.ValueSource.TheVariants.{CommandLine, DefaultValue}
-use Rattle.command_words.specs.inner.Reader.{id_of, flag_id}
+use Rattle.command_words.specs.inner.Reader.{id_of, flag_id, word_id}
 use Rattle.command_words.specs.Words.{Name, until_name, instants_name, bytes_name, Flag, strict_flag, stats_flag, Piece, plain, option, flag, same_name, same_flag, plains, values, uses}
 
 -- ---- the rows of pieces
@@ -22,13 +23,9 @@ row id word = record { id = id; values = word ∷ []; count = None; source = Som
 abbrev pub flag_row : Flag → Row
 flag_row f = row (flag_id f) (codes "true")
 
-abbrev plain_id : ℕ → Text
-plain_id zero = codes "spec"
-plain_id (suc n) = codes "trace"
-
 abbrev pub rows_from : ℕ → List Piece → List Row
 rows_from n [] = []
-rows_from n (plain word ∷ ps) = row (plain_id n) word ∷ rows_from (suc n) ps
+rows_from n (plain word ∷ ps) = row (word_id n) word ∷ rows_from (suc n) ps
 rows_from n (option name word ∷ ps) = row (id_of name) word ∷ rows_from n ps
 rows_from n (flag f ∷ ps) = flag_row f ∷ rows_from n ps
 
@@ -65,19 +62,29 @@ chosen_append id (r ∷ rs) ys = go (bytes_eq r.id id) (chosen_append id rs ys)
     go true more = ap (λ l. r ∷ l) more
     go false more = more
 
-plain_other : (n : ℕ) (name : Name) → bytes_eq (plain_id n) (id_of name) ≡ false
+plain_other : (n : ℕ) (name : Name) → bytes_eq (word_id n) (id_of name) ≡ false
 plain_other zero until_name = refl
 plain_other zero instants_name = refl
 plain_other zero bytes_name = refl
-plain_other (suc n) until_name = refl
-plain_other (suc n) instants_name = refl
-plain_other (suc n) bytes_name = refl
+plain_other (suc zero) until_name = refl
+plain_other (suc zero) instants_name = refl
+plain_other (suc zero) bytes_name = refl
+plain_other (suc (suc zero)) until_name = refl
+plain_other (suc (suc zero)) instants_name = refl
+plain_other (suc (suc zero)) bytes_name = refl
+plain_other (suc (suc (suc n))) until_name = refl
+plain_other (suc (suc (suc n))) instants_name = refl
+plain_other (suc (suc (suc n))) bytes_name = refl
 
-plain_no_flag : (n : ℕ) (f : Flag) → bytes_eq (plain_id n) (flag_id f) ≡ false
+plain_no_flag : (n : ℕ) (f : Flag) → bytes_eq (word_id n) (flag_id f) ≡ false
 plain_no_flag zero strict_flag = refl
 plain_no_flag zero stats_flag = refl
-plain_no_flag (suc n) strict_flag = refl
-plain_no_flag (suc n) stats_flag = refl
+plain_no_flag (suc zero) strict_flag = refl
+plain_no_flag (suc zero) stats_flag = refl
+plain_no_flag (suc (suc zero)) strict_flag = refl
+plain_no_flag (suc (suc zero)) stats_flag = refl
+plain_no_flag (suc (suc (suc n))) strict_flag = refl
+plain_no_flag (suc (suc (suc n))) stats_flag = refl
 
 pub flag_other : (f : Flag) (name : Name) → bytes_eq (flag_id f) (id_of name) ≡ false
 flag_other strict_flag until_name = refl
@@ -95,13 +102,15 @@ name_no_flag instants_name stats_flag = refl
 name_no_flag bytes_name strict_flag = refl
 name_no_flag bytes_name stats_flag = refl
 
-pub flag_no_spec : (f : Flag) → bytes_eq (flag_id f) (codes "spec") ≡ false
-flag_no_spec strict_flag = refl
-flag_no_spec stats_flag = refl
-
-pub flag_no_trace : (f : Flag) → bytes_eq (flag_id f) (codes "trace") ≡ false
-flag_no_trace strict_flag = refl
-flag_no_trace stats_flag = refl
+pub flag_no_word : (n : ℕ) (f : Flag) → bytes_eq (flag_id f) (word_id n) ≡ false
+flag_no_word zero strict_flag = refl
+flag_no_word zero stats_flag = refl
+flag_no_word (suc zero) strict_flag = refl
+flag_no_word (suc zero) stats_flag = refl
+flag_no_word (suc (suc zero)) strict_flag = refl
+flag_no_word (suc (suc zero)) stats_flag = refl
+flag_no_word (suc (suc (suc n))) strict_flag = refl
+flag_no_word (suc (suc (suc n))) stats_flag = refl
 
 flag_or_other : (other f : Flag) → bytes_eq (flag_id other) (flag_id f) ≡ same_flag f other
 flag_or_other strict_flag strict_flag = refl
@@ -115,15 +124,19 @@ same_flag_is stats_flag stats_flag h = refl
 same_flag_is strict_flag stats_flag h = let bad : false ≡ true = h in cc
 same_flag_is stats_flag strict_flag h = let bad : false ≡ true = h in cc
 
-name_no_spec : (name : Name) → bytes_eq (id_of name) (codes "spec") ≡ false
-name_no_spec until_name = refl
-name_no_spec instants_name = refl
-name_no_spec bytes_name = refl
-
-name_no_trace : (name : Name) → bytes_eq (id_of name) (codes "trace") ≡ false
-name_no_trace until_name = refl
-name_no_trace instants_name = refl
-name_no_trace bytes_name = refl
+name_no_word : (n : ℕ) (name : Name) → bytes_eq (id_of name) (word_id n) ≡ false
+name_no_word zero until_name = refl
+name_no_word zero instants_name = refl
+name_no_word zero bytes_name = refl
+name_no_word (suc zero) until_name = refl
+name_no_word (suc zero) instants_name = refl
+name_no_word (suc zero) bytes_name = refl
+name_no_word (suc (suc zero)) until_name = refl
+name_no_word (suc (suc zero)) instants_name = refl
+name_no_word (suc (suc zero)) bytes_name = refl
+name_no_word (suc (suc (suc n))) until_name = refl
+name_no_word (suc (suc (suc n))) instants_name = refl
+name_no_word (suc (suc (suc n))) bytes_name = refl
 
 name_or_other : (other name : Name) → bytes_eq (id_of other) (id_of name) ≡ same_name name other
 name_or_other until_name until_name = refl
@@ -169,29 +182,25 @@ chosen_flag f n (flag other ∷ ps) = rw (flag_or_other other f) (go (same_flag 
     go true h more = rw (same_flag_is f other h) (ap (λ l. flag_row f ∷ l) more)
     go false h more = more
 
-no_more_spec : (n : ℕ) (ps : List Piece) → chosen (codes "spec") (rows_from (suc n) ps) ≡ []
-no_more_spec n [] = refl
-no_more_spec n (plain word ∷ ps) = no_more_spec (suc n) ps
-no_more_spec n (option other word ∷ ps) = rw (name_no_spec other) (no_more_spec n ps)
-no_more_spec n (flag f ∷ ps) = rw (flag_no_spec f) (no_more_spec n ps)
+-- the plain words of a place, where the first of these has the place n
+abbrev pub words_at : ℕ → ℕ → List Text → List Text
+words_at k n [] = []
+words_at k n (word ∷ words) = if bytes_eq (word_id n) (word_id k) then word ∷ words_at k (suc n) words else words_at k (suc n) words
 
-pub chosen_spec : (ps : List Piece) → chosen (codes "spec") (rows_from 0 ps) ≡ map (row (codes "spec")) (take 1 (plains ps))
-chosen_spec [] = refl
-chosen_spec (plain word ∷ ps) = ap (λ l. row (codes "spec") word ∷ l) (no_more_spec 0 ps)
-chosen_spec (option other word ∷ ps) = rw (name_no_spec other) (chosen_spec ps)
-chosen_spec (flag f ∷ ps) = rw (flag_no_spec f) (chosen_spec ps)
+chosen_from : (k n : ℕ) (ps : List Piece) → chosen (word_id k) (rows_from n ps) ≡ map (row (word_id k)) (words_at k n (plains ps))
+chosen_from k n [] = refl
+chosen_from k n (option other word ∷ ps) = rw (name_no_word k other) (chosen_from k n ps)
+chosen_from k n (flag f ∷ ps) = rw (flag_no_word k f) (chosen_from k n ps)
+chosen_from k n (plain word ∷ ps) = go (bytes_eq (word_id n) (word_id k)) refl (chosen_from k (suc n) ps)
+  where
+    go : (q : Bool) → bytes_eq (word_id n) (word_id k) ≡ q → chosen (word_id k) (rows_from (suc n) ps) ≡ map (row (word_id k)) (words_at k (suc n) (plains ps))
+        → (if q then row (word_id n) word ∷ chosen (word_id k) (rows_from (suc n) ps) else chosen (word_id k) (rows_from (suc n) ps))
+        ≡ map (row (word_id k)) (if q then word ∷ words_at k (suc n) (plains ps) else words_at k (suc n) (plains ps))
+    go true h more = let same : word_id n ≡ word_id k = (bytes_eq-Decides (word_id n) (word_id k)).0 h in λ i. row (same i) word ∷ more i
+    go false h more = more
 
-more_traces : (n : ℕ) (ps : List Piece) → chosen (codes "trace") (rows_from (suc n) ps) ≡ map (row (codes "trace")) (plains ps)
-more_traces n [] = refl
-more_traces n (plain word ∷ ps) = ap (λ l. row (codes "trace") word ∷ l) (more_traces (suc n) ps)
-more_traces n (option other word ∷ ps) = rw (name_no_trace other) (more_traces n ps)
-more_traces n (flag f ∷ ps) = rw (flag_no_trace f) (more_traces n ps)
-
-pub chosen_trace : (ps : List Piece) → chosen (codes "trace") (rows_from 0 ps) ≡ map (row (codes "trace")) (drop 1 (plains ps))
-chosen_trace [] = refl
-chosen_trace (plain word ∷ ps) = more_traces 0 ps
-chosen_trace (option other word ∷ ps) = rw (name_no_trace other) (chosen_trace ps)
-chosen_trace (flag f ∷ ps) = rw (flag_no_trace f) (chosen_trace ps)
+pub chosen_words : (k : ℕ) (ps : List Piece) → chosen (word_id k) (rows_from 0 ps) ≡ map (row (word_id k)) (words_at k 0 (plains ps))
+chosen_words k ps = chosen_from k 0 ps
 
 -- ---- one row more
 
@@ -212,7 +221,7 @@ pub rows_more : (n : ℕ) (ps qs : List Piece) → rows_from n (ps ++ qs) ≡ ro
 rows_more n [] qs = let e : n + 0 ≡ n = omega arith in ap (λ k. rows_from k qs) (sym e)
 rows_more n (plain word ∷ ps) qs =
     let e : suc n + length (plains ps) ≡ n + suc (length (plains ps)) = omega arith in
-    ap (λ l. row (plain_id n) word ∷ l) (rows_more (suc n) ps qs ∙ ap (λ k. rows_from (suc n) ps ++ rows_from k qs) e)
+    ap (λ l. row (word_id n) word ∷ l) (rows_more (suc n) ps qs ∙ ap (λ k. rows_from (suc n) ps ++ rows_from k qs) e)
 rows_more n (option other word ∷ ps) qs = ap (λ l. row (id_of other) word ∷ l) (rows_more n ps qs)
 rows_more n (flag f ∷ ps) qs = ap (λ l. flag_row f ∷ l) (rows_more n ps qs)
 
@@ -226,7 +235,7 @@ has_flag f done rows xs is e = ap (has_row (flag_id f)) is ∙ (has_chosen (flag
 -- ---- the pieces so far
 
 pub record Fits (ps : List Piece) : Type 0 where
-  pub words : length (plains ps) ≤ 2
+  pub words : length (plains ps) ≤ 4
   pub options : (name : Name) → length (values name ps) ≤ 1
   pub once : (f : Flag) → length (uses f ps) ≤ 1
 
@@ -261,7 +270,7 @@ values_more name (option other word ∷ ps) qs = go (same_name name other) (valu
     go true more = omega arith
     go false more = more
 
-pub fits_plain : (done : List Piece) (word : Text) → Fits done → length (plains done) ≤ 1 → Fits (done ++ plain word ∷ [])
+pub fits_plain : (done : List Piece) (word : Text) → Fits done → length (plains done) ≤ 3 → Fits (done ++ plain word ∷ [])
 fits_plain done word f few = record {
   words = let e = plains_more done (plain word ∷ []) in omega arith;
   options = λ name. let e = values_more name done (plain word ∷ []) in let o = f.options name in omega arith;
@@ -303,7 +312,7 @@ fits_option done name word f none = record {
         let no : length (values other (option name word ∷ [])) ≡ 0 = rw h refl in
         omega arith
 
-pub unfit_plain : (done more : List Piece) (word : Text) → 2 ≤ length (plains done) → Fits (done ++ plain word ∷ more) → ⊥
+pub unfit_plain : (done more : List Piece) (word : Text) → 4 ≤ length (plains done) → Fits (done ++ plain word ∷ more) → ⊥
 unfit_plain done more word many f = let e = plains_more done (plain word ∷ more) in let o = f.words in omega arith
 
 same_flag_self : (u : Flag) → same_flag u u ≡ true
@@ -362,14 +371,28 @@ pub first_final : (id : Text) (rows : List Row) (texts : List Text) → ((f : Fl
 first_final id rows texts other are =
     ap (option_and_then (λ (r : Row). slice_get r.values 0)) (find_chosen id (final rows) ∙ ap (λ l. slice_get l 0) (chosen_final id rows other ∙ are)) ∙ first_row id texts
 
-pub first_taken : (texts : List Text) → slice_get (take 1 texts) 0 ≡ slice_get texts 0
-first_taken [] = refl
-first_taken (t ∷ ts) = refl
+-- the word of each place
+pub first_word : (texts : List Text) → slice_get (words_at 0 0 texts) 0 ≡ slice_get texts 0
+first_word [] = refl
+first_word (t ∷ ts) = refl
 
-pub second_dropped : (texts : List Text) → slice_get (drop 1 texts) 0 ≡ slice_get texts 1
-second_dropped [] = refl
-second_dropped (t ∷ []) = refl
-second_dropped (t ∷ u ∷ ts) = refl
+pub second_word : (texts : List Text) → slice_get (words_at 1 0 texts) 0 ≡ slice_get texts 1
+second_word [] = refl
+second_word (t ∷ []) = refl
+second_word (t ∷ u ∷ ts) = refl
+
+pub third_word : (texts : List Text) → slice_get (words_at 2 0 texts) 0 ≡ slice_get texts 2
+third_word [] = refl
+third_word (t ∷ []) = refl
+third_word (t ∷ u ∷ []) = refl
+third_word (t ∷ u ∷ v ∷ ts) = refl
+
+pub fourth_word : (texts : List Text) → slice_get (words_at 3 0 texts) 0 ≡ slice_get texts 3
+fourth_word [] = refl
+fourth_word (t ∷ []) = refl
+fourth_word (t ∷ u ∷ []) = refl
+fourth_word (t ∷ u ∷ v ∷ []) = refl
+fourth_word (t ∷ u ∷ v ∷ w ∷ ts) = refl
 
 -- the rows of a flag, which are those of its uses or the default
 abbrev flag_rows : Flag → List Flag → List Row
@@ -398,11 +421,11 @@ flag_final f ps =
     go [] = refl
     go (x ∷ xs) = let one : nat_le 1 (length (x ∷ xs)) ≡ true = le-leb 1 (length (x ∷ xs)) (omega arith) in sym (ap (λ b. Some (bool_text b)) one)
 
-pub spec_given : (ps : List Piece) (xs : List Text) → plains ps ≡ xs → is_given (codes "spec") (final (rows_from 0 ps)) ≡ nat_le 1 (length xs)
-spec_given ps xs e =
-    ap (λ o. option_map_or (λ (r : Row). explicit_source r.source) o false) (find_chosen (codes "spec") (final (rows_from 0 ps)) ∙ ap (λ l. slice_get l 0) (chosen_final (codes "spec") (rows_from 0 ps) flag_no_spec ∙ (chosen_spec ps ∙ ap (λ l. map (row (codes "spec")) (take 1 l)) e)))
+pub first_given : (ps : List Piece) (xs : List Text) → plains ps ≡ xs → is_given (codes "first") (final (rows_from 0 ps)) ≡ nat_le 1 (length xs)
+first_given ps xs e =
+    ap (λ o. option_map_or (λ (r : Row). explicit_source r.source) o false) (find_chosen (codes "first") (final (rows_from 0 ps)) ∙ ap (λ l. slice_get l 0) (chosen_final (codes "first") (rows_from 0 ps) (flag_no_word 0) ∙ (chosen_words 0 ps ∙ ap (λ l. map (row (codes "first")) (words_at 0 0 l)) e)))
     ∙ go xs
   where
-    go : (xs : List Text) → option_map_or (λ (r : Row). explicit_source r.source) (slice_get (map (row (codes "spec")) (take 1 xs)) 0) false ≡ nat_le 1 (length xs)
+    go : (xs : List Text) → option_map_or (λ (r : Row). explicit_source r.source) (slice_get (map (row (codes "first")) (words_at 0 0 xs)) 0) false ≡ nat_le 1 (length xs)
     go [] = refl
     go (x ∷ xs) = sym (le-leb 1 (length (x ∷ xs)) (omega arith))

@@ -1,5 +1,5 @@
 -- What `clap` makes of each word of a run.
-use Rattle.std.proofs.Common.{◌≡◌, ◌∙◌, ap, sym, subst, refl, arith, ℕ, Bool, true, false, not, ◌&&◌, ◌||◌, ◌==◌, ◌+◌, suc, List, [], ◌∷◌, ◌++◌, length, drop, take, Option, Some, None, codes, fold, if◌then◌else◌, option_and_then}
+use Rattle.std.proofs.Common.{◌≡◌, ◌∙◌, ap, sym, subst, refl, arith, ℕ, Bool, true, false, not, ◌&&◌, ◌||◌, ◌==◌, ◌+◌, zero, suc, List, [], ◌∷◌, ◌++◌, length, drop, take, Option, Some, None, codes, fold, if◌then◌else◌, option_and_then}
 use Rattle.std.specs.Str.{bytes_eq, chars, encode_utf8_all, IsUtf8}
 use Rattle.std.specs.List.{before_first, list_any, prefix_len}
 use Rattle.std.specs.Prelude.{⊤}
@@ -13,7 +13,7 @@ use Rattle.clap.specs.Lexer.{long_of, long_of_rest, short_of, short_of_rest, str
 use Rattle.clap.specs.Simple.{Shape, built, filled, with_index}
 use Rattle.clap.specs.Faults.{is_simple_and_free, use_fault, flag_word_fault, flags_fault, long_fault, turn_fault, walk_fault, settle_fault, step_fault}
 use Rattle.clap.specs.Kinds.{Kinds, or_else}
-use Rattle.command_words.specs.inner.Reader.{flag_id, flag_rule, id_of, option_rule, run_app}
+use Rattle.command_words.specs.inner.Reader.{flag_id, flag_rule, id_of, option_rule, run_app, word_id}
 use Rattle.command_words.specs.Words.{Name, until_name, instants_name, bytes_name, Flag, strict_flag, stats_flag, is_dashed, is_equals, value_in}
 use Rattle.command_words.proofs.WordRows.{row, flag_row, set_row}
 
@@ -156,32 +156,36 @@ held rows pending = record { rows = rows; pending = pending; skip = 0 }
 
 -- the arguments that take a value
 pub data Slot : Type 0 where
-  spec_slot : Slot
-  trace_slot : Slot
+  word_slot : ℕ → Slot
   name_slot : Name → Slot
 
 abbrev slot_id : Slot → Text
-slot_id spec_slot = codes "spec"
-slot_id trace_slot = codes "trace"
+slot_id (word_slot n) = word_id n
 slot_id (name_slot name) = id_of name
 
 pub quiet_settle : (slot : Slot) (rows : List Row) (word : Text) → has_row (slot_id slot) rows ≡ false → settle_fault R false (held rows (Some (slot_id slot, word ∷ []))) ≡ []
-quiet_settle spec_slot rows word h = rw h refl
-quiet_settle trace_slot rows word h = rw h refl
+quiet_settle (word_slot zero) rows word h = rw h refl
+quiet_settle (word_slot (suc zero)) rows word h = rw h refl
+quiet_settle (word_slot (suc (suc zero))) rows word h = rw h refl
+quiet_settle (word_slot (suc (suc (suc n)))) rows word h = rw h refl
 quiet_settle (name_slot until_name) rows word h = rw h refl
 quiet_settle (name_slot instants_name) rows word h = rw h refl
 quiet_settle (name_slot bytes_name) rows word h = rw h refl
 
 pub loud_settle : (slot : Slot) (rows : List Row) (word : Text) → has_row (slot_id slot) rows ≡ true → HasFault (settle_fault R false (held rows (Some (slot_id slot, word ∷ []))))
-loud_settle spec_slot rows word h = rw h tt
-loud_settle trace_slot rows word h = rw h tt
+loud_settle (word_slot zero) rows word h = rw h tt
+loud_settle (word_slot (suc zero)) rows word h = rw h tt
+loud_settle (word_slot (suc (suc zero))) rows word h = rw h tt
+loud_settle (word_slot (suc (suc (suc n)))) rows word h = rw h tt
 loud_settle (name_slot until_name) rows word h = rw h tt
 loud_settle (name_slot instants_name) rows word h = rw h tt
 loud_settle (name_slot bytes_name) rows word h = rw h tt
 
 pub slot_rows : (slot : Slot) (rows : List Row) (word : Text) → has_row (slot_id slot) rows ≡ false → settled_rows R (Some (slot_id slot, word ∷ [])) rows ≡ rows ++ row (slot_id slot) word ∷ []
-slot_rows spec_slot rows word h = set_row (codes "spec") word rows h
-slot_rows trace_slot rows word h = set_row (codes "trace") word rows h
+slot_rows (word_slot zero) rows word h = set_row (codes "first") word rows h
+slot_rows (word_slot (suc zero)) rows word h = set_row (codes "second") word rows h
+slot_rows (word_slot (suc (suc zero))) rows word h = set_row (codes "third") word rows h
+slot_rows (word_slot (suc (suc (suc n)))) rows word h = set_row (codes "fourth") word rows h
 slot_rows (name_slot until_name) rows word h = set_row (codes "until") word rows h
 slot_rows (name_slot instants_name) rows word h = set_row (codes "instants") word rows h
 slot_rows (name_slot bytes_name) rows word h = set_row (codes "bytes") word rows h
@@ -193,53 +197,55 @@ empty_settle bytes_name rows = tt
 
 -- ---- turns
 
-pub positional_spec : (rows : List Row) (pending : Option (Text × List Text)) → step_fault S 1 (held rows pending) value ≡ settle_fault R false (held rows pending)
-positional_spec rows None = refl
-positional_spec rows (Some p) = go (bytes_eq p.0 (codes "spec"))
-  where
-    go : (q : Bool) → (if q && false then [] else settle_fault R false (held rows (Some p))) ≡ settle_fault R false (held rows (Some p))
-    go true = refl
-    go false = refl
+-- what is held is settled before a plain word of another argument
+settled_first : {X : Type 0} (q : Bool) (a b : X) → (if q && false then a else b) ≡ b
+settled_first true a b = refl
+settled_first false a b = refl
 
-pub positional_trace : (rows : List Row) (pending : Option (Text × List Text)) → step_fault S 2 (held rows pending) value ≡ settle_fault R false (held rows pending)
-positional_trace rows None = refl
-positional_trace rows (Some p) = go (bytes_eq p.0 (codes "trace"))
-  where
-    go : (q : Bool) → (if q && false then [] else settle_fault R false (held rows (Some p))) ≡ settle_fault R false (held rows (Some p))
-    go true = refl
-    go false = refl
+-- the four plain words, by the place of each
+pub data Place : ℕ → Type 0 where
+  first_place : Place 0
+  second_place : Place 1
+  third_place : Place 2
+  fourth_place : Place 3
+
+pub positional_step : (k : ℕ) → Place k → (rows : List Row) (pending : Option (Text × List Text)) → step_fault S (suc k) (held rows pending) value ≡ settle_fault R false (held rows pending)
+positional_step _ first_place rows None = refl
+positional_step _ second_place rows None = refl
+positional_step _ third_place rows None = refl
+positional_step _ fourth_place rows None = refl
+positional_step _ first_place rows (Some p) = settled_first (bytes_eq p.0 (codes "first")) [] _
+positional_step _ second_place rows (Some p) = settled_first (bytes_eq p.0 (codes "second")) [] _
+positional_step _ third_place rows (Some p) = settled_first (bytes_eq p.0 (codes "third")) [] _
+positional_step _ fourth_place rows (Some p) = settled_first (bytes_eq p.0 (codes "fourth")) [] _
 
 loud_step : (rows : List Row) (pending : Option (Text × List Text)) (n : ℕ) → HasFault (settle_fault R false (held rows pending)) → HasFault (step_fault S n (held rows pending) value)
-loud_step rows pending n h = go (1 == n) (2 == n) refl refl
+loud_step rows pending n h = go (1 == n) (2 == n) (3 == n) (4 == n) refl refl refl refl
   where
-    go : (a b : Bool) → (1 == n) ≡ a → (2 == n) ≡ b → HasFault (step_fault S n (held rows pending) value)
-    go true b e f = let is : 1 ≡ n = eqb-true 1 n e in subst (λ k. HasFault (step_fault S k (held rows pending) value)) is (subst HasFault (sym (positional_spec rows pending)) h)
-    go false true e f = let is : 2 ≡ n = eqb-true 2 n f in subst (λ k. HasFault (step_fault S k (held rows pending) value)) is (subst HasFault (sym (positional_trace rows pending)) h)
-    go false false e f = rw (e, f) tt
+    at_place : (k : ℕ) → Place k → (suc k == n) ≡ true → HasFault (step_fault S n (held rows pending) value)
+    at_place k p e = let is : suc k ≡ n = eqb-true (suc k) n e in subst (λ m. HasFault (step_fault S m (held rows pending) value)) is (subst HasFault (sym (positional_step k p rows pending)) h)
 
-pub spec_placed : (rows : List Row) (pending : Option (Text × List Text)) (word : Text) (waiting : Waiting) (t : Bool)
-    → to_positional R (arg_by_index R 1) word (at rows pending waiting 1 t) (held rows pending) ≡ at (settled_rows R pending rows) (Some (codes "spec", word ∷ [])) idle 2 (t || false)
-spec_placed rows None word waiting t = refl
-spec_placed rows (Some p) word waiting t = go (bytes_eq p.0 (codes "spec"))
-  where
-    to : Held → Walk
-    to h = record { held = pushed (codes "spec") word h; waiting = idle; position = 2; is_trailing = t || false; stopped = None }
+    go : (a b c d : Bool) → (1 == n) ≡ a → (2 == n) ≡ b → (3 == n) ≡ c → (4 == n) ≡ d → HasFault (step_fault S n (held rows pending) value)
+    go true b c d e f g i = at_place 0 first_place e
+    go false true c d e f g i = at_place 1 second_place f
+    go false false true d e f g i = at_place 2 third_place g
+    go false false false true e f g i = at_place 3 fourth_place i
+    go false false false false e f g i = rw (e, f, g, i) tt
 
-    go : (q : Bool) → to (if q && false then held rows (Some p) else settled R (held rows (Some p))) ≡ at (settled_rows R (Some p) rows) (Some (codes "spec", word ∷ [])) idle 2 (t || false)
-    go true = refl
-    go false = refl
+-- a plain word is held for its argument
+abbrev held_word : ℕ → Text → Bool → Held → Walk
+held_word k word t h = record { held = pushed (word_id k) word h; waiting = idle; position = suc (suc k); is_trailing = t || false; stopped = None }
 
-pub trace_placed : (rows : List Row) (pending : Option (Text × List Text)) (word : Text) (waiting : Waiting) (t : Bool)
-    → to_positional R (arg_by_index R 2) word (at rows pending waiting 2 t) (held rows pending) ≡ at (settled_rows R pending rows) (Some (codes "trace", word ∷ [])) idle 3 (t || false)
-trace_placed rows None word waiting t = refl
-trace_placed rows (Some p) word waiting t = go (bytes_eq p.0 (codes "trace"))
-  where
-    to : Held → Walk
-    to h = record { held = pushed (codes "trace") word h; waiting = idle; position = 3; is_trailing = t || false; stopped = None }
-
-    go : (q : Bool) → to (if q && false then held rows (Some p) else settled R (held rows (Some p))) ≡ at (settled_rows R (Some p) rows) (Some (codes "trace", word ∷ [])) idle 3 (t || false)
-    go true = refl
-    go false = refl
+pub word_placed : (k : ℕ) → Place k → (rows : List Row) (pending : Option (Text × List Text)) (word : Text) (waiting : Waiting) (t : Bool)
+    → to_positional R (arg_by_index R (suc k)) word (at rows pending waiting (suc k) t) (held rows pending) ≡ at (settled_rows R pending rows) (Some (word_id k, word ∷ [])) idle (suc (suc k)) (t || false)
+word_placed _ first_place rows None word waiting t = refl
+word_placed _ second_place rows None word waiting t = refl
+word_placed _ third_place rows None word waiting t = refl
+word_placed _ fourth_place rows None word waiting t = refl
+word_placed _ first_place rows (Some p) word waiting t = ap (held_word 0 word t) (settled_first (bytes_eq p.0 (codes "first")) (held rows (Some p)) (settled R (held rows (Some p))))
+word_placed _ second_place rows (Some p) word waiting t = ap (held_word 1 word t) (settled_first (bytes_eq p.0 (codes "second")) (held rows (Some p)) (settled R (held rows (Some p))))
+word_placed _ third_place rows (Some p) word waiting t = ap (held_word 2 word t) (settled_first (bytes_eq p.0 (codes "third")) (held rows (Some p)) (settled R (held rows (Some p))))
+word_placed _ fourth_place rows (Some p) word waiting t = ap (held_word 3 word t) (settled_first (bytes_eq p.0 (codes "fourth")) (held rows (Some p)) (settled R (held rows (Some p))))
 
 -- a plain word, before `--`
 pub plain_turn : (rows : List Row) (pending : Option (Text × List Text)) (n : ℕ) (word : Text) → bytes_eq word (45 ∷ 45 ∷ []) ≡ false → long_of word ≡ None → short_of word ≡ None
@@ -381,7 +387,7 @@ joined_turn until_name n word v rows pending f e = rw (f, e) refl
 joined_turn instants_name n word v rows pending f e = rw (f, e) refl
 joined_turn bytes_name n word v rows pending f e = rw (f, e) refl
 
-use_again : (name : Name) (v : Text) (rows : List Row) → has_row (id_of name) rows ≡ true → HasFault (use_fault false (with_index 3 (filled (option_rule (id_of name)))) (v ∷ []) rows)
+use_again : (name : Name) (v : Text) (rows : List Row) → has_row (id_of name) rows ≡ true → HasFault (use_fault false (with_index 5 (filled (option_rule (id_of name)))) (v ∷ []) rows)
 use_again until_name v rows e = rw e tt
 use_again instants_name v rows e = rw e tt
 use_again bytes_name v rows e = rw e tt
@@ -404,7 +410,7 @@ pub flag_turn : (f : Flag) (n : ℕ) (word : Text) (rows : List Row) (pending : 
 flag_turn strict_flag n word rows pending f e = rw (f, e) refl
 flag_turn stats_flag n word rows pending f e = rw (f, e) refl
 
-flag_use_again : (f : Flag) (rows : List Row) → has_row (flag_id f) rows ≡ true → HasFault (use_fault false (with_index 3 (filled (flag_rule (flag_id f)))) [] rows)
+flag_use_again : (f : Flag) (rows : List Row) → has_row (flag_id f) rows ≡ true → HasFault (use_fault false (with_index 5 (filled (flag_rule (flag_id f)))) [] rows)
 flag_use_again strict_flag rows e = rw e tt
 flag_use_again stats_flag rows e = rw e tt
 

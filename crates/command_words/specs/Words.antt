@@ -1,21 +1,22 @@
 -- What the words after the program's name ask for.
 use Rattle.std.specs.Prelude.{◌<◌, ◌≤◌, ◌==◌, ◌^◌, ◌-◌, ℕ, Bool, true, false, not, ◌&&◌, if◌then◌else◌, nat_le, ⊤, List, [], ◌∷◌, length}
 use Rattle.std.specs.Prelude.{map, Option, Some, None, codes, drop, option_map, option_and_then, unwrap_or, slice_get}
-use Rattle.std.specs.List.{list_any, before_first, after_first}
+use Rattle.std.specs.List.{list_all, list_any, before_first, after_first}
 use Rattle.std.specs.Str.{bytes_eq}
 use Rattle.std.specs.Str.Parse.{digits_value}
 use Rattle.tsl_value.specs.Literal.{are_digits}
-use Rattle.tsl_value.specs.declared.limits.TheConstants.{MOST_TRACE_BYTES}
+use Rattle.tsl_value.specs.declared.limits.TheConstants.{MOST_INSTANTS, MOST_TRACE_BYTES}
 use Rattle.command_words.specs.declared.command.Command.{Command}
 use Rattle.command_words.specs.declared.command.Command.TheVariants as command
 use Rattle.command_words.specs.declared.command.Form.TheVariants as form
 use Rattle.command_words.specs.declared.command.Run.{Run}
 use Rattle.command_words.specs.declared.command.Workload.{Workload}
 use Rattle.command_words.specs.declared.command.Workload.TheVariants as kind
+use Rattle.command_words.specs.declared.room.Room.{Room}
 use Rattle.command_words.specs.declared.words.Verb.{Verb}
 use Rattle.command_words.specs.declared.words.Verb.TheVariants as verb
 use Rattle.command_words.specs.declared.words.Word.{Word}
-use Rattle.command_words.specs.declared.limits.TheConstants.{MOST_TIME, MOST_INSTANTS, MOST_LINES}
+use Rattle.command_words.specs.declared.limits.TheConstants.{MOST_TIME, MOST_LINES}
 
 -- the options that have a value
 pub data Name : Type 0 where
@@ -154,27 +155,35 @@ abbrev pub number_or : ℕ → ℕ → ℕ → Option (List ℕ) → Option ℕ
 number_or other least most None = Some other
 number_or other least most (Some word) = number least most word
 
--- which words stand after a command's name: how many plain ones at least and at most, and how often each option and each
--- flag at most
-pub record Room : Type 0 where
-  pub least : ℕ
-  pub most : ℕ
-  pub options : ℕ
-  pub flags : ℕ
+-- how often an option may stand, by whether it says how a trace is read
+abbrev pub times_of : Room → Name → ℕ
+times_of room instants_name = room.limits
+times_of room bytes_name = room.limits
+times_of room until_name = room.others
+
+-- and a flag
+abbrev pub uses_of : Room → Flag → ℕ
+uses_of room strict_flag = room.limits
+uses_of room stats_flag = room.others
+
+abbrev pub all_names : List Name
+all_names = until_name ∷ instants_name ∷ bytes_name ∷ []
+
+abbrev pub all_flags : List Flag
+all_flags = strict_flag ∷ stats_flag ∷ []
+
+-- the options that pieces have stand no more often than they may
+abbrev pub options_fit : Room → List Piece → Bool
+options_fit room ps = list_all (λ name. nat_le (length (values name ps)) (times_of room name)) all_names
+
+-- and their flags
+abbrev pub flags_fit : Room → List Piece → Bool
+flags_fit room ps = list_all (λ f. nat_le (length (uses f ps)) (uses_of room f)) all_flags
 
 -- pieces that have room
 abbrev pub fits : Room → List Piece → Bool
 fits room ps =
-    nat_le room.least (length (plains ps)) && (nat_le (length (plains ps)) room.most
-    && (nat_le (length (values until_name ps)) room.options && (nat_le (length (values instants_name ps)) room.options
-    && (nat_le (length (values bytes_name ps)) room.options
-    && (nat_le (length (uses strict_flag ps)) room.flags && nat_le (length (uses stats_flag ps)) room.flags)))))
-
--- only plain words
-abbrev pub are_plain : List Piece → Bool
-are_plain ps =
-    nat_le (length (values until_name ps)) 0 && (nat_le (length (values instants_name ps)) 0 && (nat_le (length (values bytes_name ps)) 0
-    && (nat_le (length (uses strict_flag ps)) 0 && nat_le (length (uses stats_flag ps)) 0)))
+    nat_le room.least (length (plains ps)) && (nat_le (length (plains ps)) room.most && (options_fit room ps && flags_fit room ps))
 
 -- the pieces of words that have room
 abbrev pub read : Room → List (List ℕ) → Option (List Piece)
@@ -182,15 +191,15 @@ read room words = option_and_then (λ ps. if fits room ps then Some ps else None
 
 -- `SPEC`
 abbrev pub one_room : Room
-one_room = record { least = 1; most = 1; options = 0; flags = 0 }
+one_room = record { least = 1; most = 1; limits = 0; others = 0 }
 
 -- `SPEC [TRACE]` with all options and flags
 abbrev pub run_room : Room
-run_room = record { least = 1; most = 2; options = 1; flags = 1 }
+run_room = record { least = 1; most = 2; limits = 1; others = 1 }
 
 -- `KIND N`
 abbrev pub pair_room : Room
-pair_room = record { least = 2; most = 2; options = 0; flags = 0 }
+pair_room = record { least = 2; most = 2; limits = 0; others = 0 }
 
 -- the run of these values. Where the trace has no name it is `-`, the standard input
 abbrev pub run_by : Option (List ℕ) → Option (List ℕ) → Option (List ℕ) → Option (List ℕ) → Option (List ℕ) → Bool → Bool → Option Run

@@ -3,4 +3,5 @@
 
 pub mod command;
 pub mod limits;
+mod room;
 pub mod words;

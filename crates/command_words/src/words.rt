@@ -1,7 +1,7 @@
 // The words after the program's name.
 
 ghost use Rattle.std.specs.Prelude.{IfNone, Bool, ◌≡◌, ◌<◌, ◌^◌, [], ◌∷◌, ◌++◌, false, List, ℕ, if◌then◌else◌, Some, None, codes, drop};
-ghost use Rattle.std.specs.Prelude.{IfOk, IfSome, OnOk, OnErr, IsTrue, nat_le, length, not, option_map, option_and_then};
+ghost use Rattle.std.specs.Prelude.{IfOk, IfSome, OnOk, OnErr, IsTrue, nat_le, length, option_map, option_and_then};
 ghost use Rattle.std.specs.Option.{SomeIff};
 ghost use Rattle.std.specs.Str.{IsUtf8};
 ghost use Rattle.std.specs.Str.Parse.{digits_value};
@@ -10,18 +10,19 @@ ghost use Rattle.std.specs.Char.{is_ascii_digit};
 ghost use Rattle.tsl_value.specs.Literal.{are_digits};
 ghost use Rattle.clap.specs.Words.{app_of, found_of};
 ghost use Rattle.command_words.specs.inner.Reader.{Holds, IsRefused, Matches, run_app, run_found, says};
-ghost use Rattle.command_words.specs.Words.{IsLimited, Piece, are_plain, asked_by, command_of, counted_of, first_verb, fits, is_empty};
+ghost use Rattle.command_words.specs.Words.{IsLimited, Piece, asked_by, command_of, counted_of, first_verb, fits, is_empty};
 ghost use Rattle.command_words.specs.Words.{kind_of, number, number_or, one_room, pair_room, plains, run_of, run_room, spec_of, texts_of};
 ghost use Rattle.command_words.specs.Words.{verb_of};
 
 use crate::command::{Command, Form, Run, Workload};
-use crate::limits::{MOST_INSTANTS, MOST_LINES, MOST_TIME};
+use crate::limits::{MOST_LINES, MOST_TIME};
+use crate::room::{fits, one_room, pair_room, run_room};
 use clap::error::ErrorKind;
 use clap::{Arg, ArgAction, ArgMatches};
 use std::alloc::{AllocError, Global};
 use std::convert::AsStr;
 use std::marker::Model;
-use tsl_value::limits::MOST_TRACE_BYTES;
+use tsl_value::limits::{MOST_INSTANTS, MOST_TRACE_BYTES};
 use tsl_value::memory::NoMemory;
 use tsl_value::text::Text;
 
@@ -153,10 +154,10 @@ fn run_found(alloc: Global, matches: &ArgMatches<'_>) -> Result<Option<Run>, NoM
         → says (found_of matches.now) (codes "stats") stats
         → run ≡ run_found (found_of matches.now) strict stats) }
 {
-    let Some(spec) = matches.get_str("spec") else {
+    let Some(spec) = matches.get_str("first") else {
         return Ok(None);
     };
-    let trace = matches.get_str("trace").unwrap_or("-");
+    let trace = matches.get_str("second").unwrap_or("-");
     let Some(until) = number_or(matches.get_str("until"), 0, 0, MOST_TIME) else {
         return Ok(None);
     };
@@ -188,33 +189,21 @@ fn run_by(alloc: Global, matches: &ArgMatches<'_>) -> Result<Option<Run>, NoMemo
     ensures { IfOk result (λ run. (ps : List Piece) → Holds ps (found_of matches.now)
         → run ≡ option_and_then run_of (if fits run_room ps then Some ps else None)) }
 {
+    if !fits(run_room(), matches) {
+        return Ok(None);
+    }
     run_found(alloc, matches)
 }
 
-/// Whether an option or a flag stands.
-fn has_options(matches: &ArgMatches<'_>) -> bool
-    ensures { (ps : List Piece) → Holds ps (found_of matches.now) → result ≡ not (are_plain ps) }
-{
-    matches.get_str("until").is_some()
-        || matches.get_str("instants").is_some()
-        || matches.get_str("bytes").is_some()
-        || matches.get_flag("strict")
-        || matches.get_flag("stats")
-}
-
 /// The specification that the matches name, where nothing else stands.
-#[tactic(auto, using(crate::proofs::Commands::spec_alone, crate::proofs::Commands::spec_with_more, crate::proofs::Commands::spec_with_options))]
 fn spec_by<'a>(matches: &ArgMatches<'a>) -> Option<&'a str>
     ensures { (ps : List Piece) → Holds ps (found_of matches.now)
         → option_map (λ s. s.now) result ≡ option_and_then spec_of (if fits one_room ps then Some ps else None) }
 {
-    if has_options(matches) {
+    if !fits(one_room(), matches) {
         return None;
     }
-    if matches.get_str("trace").is_some() {
-        return None;
-    }
-    matches.get_str("spec")
+    matches.get_str("first")
 }
 
 fn kind_of(word: &str) -> Option<Workload>
@@ -232,20 +221,20 @@ fn counted_by(matches: &ArgMatches<'_>) -> Option<(Workload, u64)>
     ensures { (ps : List Piece) → Holds ps (found_of matches.now)
         → result ≡ option_and_then counted_of (if fits pair_room ps then Some ps else None) }
 {
-    if has_options(matches) {
+    if !fits(pair_room(), matches) {
         return None;
     }
-    let kind = kind_of(matches.get_str("spec")?)?;
-    let count = number(matches.get_str("trace")?, 1, MOST_LINES)?;
+    let kind = kind_of(matches.get_str("first")?)?;
+    let count = number(matches.get_str("second")?, 1, MOST_LINES)?;
     Some((kind, count))
 }
 
-/// What reads the words of all commands: at most two plain words, of which the first is needed, and the options and flags of
-/// `run`, without help.
+/// What reads the words of all commands: at most four plain words, of which the first is needed, and the options and flags of
+/// `run`, without help. Which of them a command takes its room says.
 fn reader<'a>(alloc: Global) -> Result<clap::Command<'a>, AllocError>
     ensures { IfOk result (λ command. app_of command ≡ run_app) }
 {
-    let spec = Arg::new(alloc, "spec").required(true);
+    let first = Arg::new(alloc, "first").required(true);
     let strict = Arg::new(alloc, "strict")
         .long("strict")
         .action(ArgAction::SetTrue);
@@ -254,8 +243,10 @@ fn reader<'a>(alloc: Global) -> Result<clap::Command<'a>, AllocError>
         .action(ArgAction::SetTrue);
     clap::Command::new(alloc, "run")
         .disable_help_flag(true)
-        .arg(spec)?
-        .arg(Arg::new(alloc, "trace"))?
+        .arg(first)?
+        .arg(Arg::new(alloc, "second"))?
+        .arg(Arg::new(alloc, "third"))?
+        .arg(Arg::new(alloc, "fourth"))?
         .arg(Arg::new(alloc, "until").long("until"))?
         .arg(Arg::new(alloc, "instants").long("instants"))?
         .arg(Arg::new(alloc, "bytes").long("bytes"))?

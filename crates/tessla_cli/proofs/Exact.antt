@@ -13,8 +13,8 @@ use Rattle.tsl_world.specs.declared.outside.Channel.TheVariants.{Out}
 use Rattle.tsl_world.specs.declared.outside.Did.{Did}
 use Rattle.tsl_world.specs.declared.outside.Slot.TheVariants.{Spec, Trace}
 use Rattle.tsl_world.specs.Seen.{Seen, seen}
-use Rattle.spec_compiler.proofs.Kept.{one_is_compiled, refused_compiles_none}
-use Rattle.spec_reader.specs.declared.fault.SpecFault.{SpecFault}
+use Rattle.compiled_meaning.proofs.Kept.{one_is_compiled, refused_compiles_none}
+use Rattle.source_rules.specs.declared.fault.SpecFault.{SpecFault}
 use Rattle.trace_bench.proofs.Compiling.{refused_benches_none}
 use Rattle.trace_bench.proofs.Endings.{one_ending}
 use Rattle.trace_bench.specs.Bench.{source_of}

@@ -14,29 +14,30 @@ use Rattle.tsl_world.specs.Begins.{Begins}
 use Rattle.tsl_world.specs.declared.outside.Did.{Did}
 use Rattle.tsl_world.specs.declared.outside.Did.TheVariants.{Opened, Created, Took, Gave, NotOpened, NotCreated, NotTook, NotGave}
 use Rattle.tsl_world.specs.declared.outside.Slot.{Slot}
+use Rattle.tsl_world.specs.declared.outside.Slot.TheVariants as slot
 use Rattle.tsl_world.specs.declared.outside.Slot.TheVariants.{Spec, Trace}
 use Rattle.tsl_world.specs.declared.outside.Channel.{Channel}
 use Rattle.tsl_world.specs.declared.outside.Channel.TheVariants.{Out, Err}
-use Rattle.tsl_world.specs.Journal.{given, taken, ended, openings, creations, AtAll, AtReads, StopsAtEnd, StopsAtFailure, IsAny, IsDone, IsGift, IsOpening, IsRead, IsNoRead, IsNoGift, IsTransfer, IsWithin, Each}
+use Rattle.tsl_world.specs.Journal.{given, taken, ended, openings, creations, same_slot, AtAll, AtEntries, AtReads, StopsAtEnd, StopsAtFailure, IsAny, IsDone, IsGift, IsOpening, IsRead, IsNoRead, IsNoGift, IsTransfer, IsWithin, Each}
 use Rattle.tsl_world.specs.Seen.{Seen, seen}
 use Rattle.tsl_world.proofs.Journals.{openings-append, creations-append, Each-append, each_more}
-use Rattle.tsl_world.proofs.Untouched.{gifts_read_none, gifts_transfer, gifts_within, gifts_elsewhere, not_gift, taken_before, taken_after, ended_before, ended_after, given_after, given_none, openings_none, creations_none, transfer_opens_none}
-use Rattle.tsl_world.proofs.Places.{at_none, at_not, at_no_read, at_join, at_more, at_after, at_weaker, at_fewer, at_each, at_each_join, stops_one}
+use Rattle.tsl_world.proofs.Untouched.{gifts_read_none, gifts_transfer, gifts_within, gifts_elsewhere, not_gift, not_read, taken_before, taken_after, ended_before, ended_after, given_after, given_none, openings_none, creations_none, transfer_opens_none}
+use Rattle.tsl_world.proofs.Places.{at_none, at_not, at_no_read, at_join, at_more, at_after, at_weaker, at_fewer, at_each, at_each_join, stops_after, stops_one}
 use Rattle.syntax_tree.specs.Tree as tree
-use Rattle.spec_compiler.specs.Compiled.{Compiles}
+use Rattle.compiled_meaning.specs.Compiled.{Compiles}
 use Rattle.trace_monitor.specs.declared.ending.RunEnding.{RunEnding}
 use Rattle.trace_monitor.specs.declared.options.Options.{Options}
 use Rattle.trace_monitor.specs.Due.{IsDue}
 use Rattle.trace_monitor.specs.Ending.{GoesOn}
 use Rattle.trace_monitor.specs.Next.{EndsBy}
 use Rattle.tessla_cli.specs.Asked.{for_asked, options_of, program_files, trace_files}
-use Rattle.tessla_cli.specs.Stages.{AreWhole, HasWhole, at_work, opened_at}
-use Rattle.tessla_cli.specs.Conduct.{IsAllWhole, MakesNothing, ReadsSpecFirst, ReadsTraceLast, WritesLast, StopsAtLimit, ReadsPieces, OpensAsAsked, OfText, GoesOnAtRead, GoesOnAtReads, BeginsOut, IsPartlyDue}
+use Rattle.tessla_cli.specs.Stages.{AreWhole, AreWholeBefore, HasWhole, at_work, opened_at}
+use Rattle.tessla_cli.specs.Conduct.{IsAllWhole, MakesNothing, TakesInTurn, WritesLast, StopsAtEnds, StopsAtLimit, ReadsPieces, OpensAsAsked, OfText, GoesOnAtRead, GoesOnAtReads, BeginsOut, IsPartlyDue}
 use Rattle.tessla_cli.specs.Headline.{OfItems, OfSource, IsDueAtRead, IsDueAtReads}
 use Rattle.trace_run.specs.Meant.{IsDueAsMeant, GoesOnAsMeant, BeginsAsMeant, WatchEndsAsMeant}
 use Rattle.trace_run.specs.Effects.{IsTraceWork, MayRead, BeginsDue, RunsSystem, Watched, WatchEnds, idle, no_trace, watched}
 use Rattle.trace_run.specs.Statistics.{AreStatistics, counted_text}
-use Rattle.tessla_cli.specs.inner.RunPhases.{IsTake, MayReadSpec, ReadsSpec, GivesSource, Prints, uncompiled, compiled, Monitors, RunsSource, ReadsName, unopened, no_spec, reading, RunsSpec, unread, whole, Does, DoesAsked, PrintsText, RunsAlone, unmade, writes}
+use Rattle.tessla_cli.specs.inner.RunPhases.{IsTake, MayReadSpec, ReadsSpec, GivesSource, Prints, uncompiled, compiled, Monitors, RunsSource, ReadsName, unopened, no_file, reading, RunsSpec, unread, whole, Does, DoesAsked, PrintsText, RunsAlone, unmade, writes}
 use Rattle.tessla_cli.specs.Alone.{IsTallyText}
 use Rattle.tessla_cli.specs.Printed.{IsTextOf}
 use Rattle.trace_run.proofs.Counted.{statistics_meant}
@@ -80,11 +81,9 @@ whole_more part more none (inr beyond) = inr (subst (λ (l : List ℕ). MOST_SOU
 pub record Shows (c : Option Command) (part : List Did) : Type 0 where
   pub opens : OpensAsAsked c part
   pub makes : MakesNothing part
-  pub spec_first : ReadsSpecFirst part
-  pub trace_last : ReadsTraceLast part
+  pub in_turn : TakesInTurn c part
   pub writes_last : WritesLast c part
-  pub spec_ends : StopsAtEnd Spec part
-  pub trace_ends : StopsAtEnd Trace part
+  pub ends : StopsAtEnds part
   pub limit : StopsAtLimit part
   pub pieces : ReadsPieces part
   pub stops : StopsAtFailure part
@@ -93,35 +92,47 @@ pub record Shows (c : Option Command) (part : List Did) : Type 0 where
   pub partly : IsPartlyDue c (seen part)
   pub silent : Each (IsNoGift Err) part
 
--- a part with no read and no write, in which no opening of the trace stands
-shows_few : (c : Option Command) (part : List Did) → OpensAsAsked c part → MakesNothing part → Each (λ did. IsOpening Trace did → ⊥) part
-    → Each (IsNoRead Spec) part → Each (IsNoRead Trace) part → ((to : Channel) → Each (IsNoGift to) part) → ReadsPieces part → StopsAtFailure part → Shows c part
-shows_few c part opens makes no_opening spec trace gifts pieces stops = record {
+-- what is read whole before a file in this slot, for a command
+abbrev IsTurn : Option Command → Slot → Seen → Type 0
+IsTurn c from x = AreWholeBefore from (for_asked (opened_at at_work) c) x
+
+-- what holds of entries of the specification, and then of those of each other slot
+of_each : (Q : Slot → Did → Type 0) (P : Slot → List Did → Type 0) (part : List Did) → ((before : List Did) → P Spec before)
+    → ((from : Slot) → same_slot Spec from ≡ false → AtEntries (Q from) (P from) part) → (from : Slot) → AtEntries (Q from) (P from) part
+of_each Q P part first others slot.Spec = λ before at. first before
+of_each Q P part first others slot.Trace = others slot.Trace refl
+of_each Q P part first others slot.State = others slot.State refl
+of_each Q P part first others slot.Code = others slot.Code refl
+
+-- a part with no read and no write
+shows_few : (c : Option Command) (part : List Did) → OpensAsAsked c part → MakesNothing part → ((from : Slot) → AtEntries (IsOpening from) (λ before. IsTurn c from (seen before)) part)
+    → ((from : Slot) → Each (IsNoRead from) part) → ((to : Channel) → Each (IsNoGift to) part) → ReadsPieces part → StopsAtFailure part → Shows c part
+shows_few c part opens makes turns reads gifts pieces stops = record {
   opens = opens;
   makes = makes;
-  spec_first = at_not (IsOpening Trace) (λ before. HasWhole Spec (seen before)) part no_opening;
-  trace_last = at_no_read Trace (λ before. HasWhole Spec (seen before)) part trace;
+  in_turn = record { opens = turns; reads = λ from. at_no_read from (λ before. IsTurn c from (seen before)) part (reads from) };
   writes_last = λ to other. at_not (IsGift to) (λ before. IsAllWhole c (seen before)) part (each_more (IsNoGift to) (λ did. IsGift to did → ⊥) (not_gift to) part (gifts to));
-  spec_ends = at_no_read Spec _ part spec;
-  trace_ends = at_no_read Trace _ part trace;
-  limit = at_no_read Spec _ part spec;
+  ends = λ from. at_no_read from _ part (reads from);
+  limit = at_no_read Spec _ part (reads Spec);
   pieces = pieces;
   stops = stops;
-  due = at_no_read Trace (λ before. IsDueAtRead c (seen before)) part trace;
-  goes_on = at_no_read Trace (λ before. GoesOnAtRead c (seen before)) part trace;
+  due = at_no_read Trace (λ before. IsDueAtRead c (seen before)) part (reads Trace);
+  goes_on = at_no_read Trace (λ before. GoesOnAtRead c (seen before)) part (reads Trace);
   partly = inl (given_none Out part (gifts Out));
   silent = gifts Err;
 }
 
 shows_none : (c : Option Command) → Shows c []
-shows_none c = shows_few c [] (record { rest = for_asked (opened_at at_work) c; is = refl }) refl tt tt tt (λ to. tt) tt (at_none IsAny (Each IsDone))
+shows_none c =
+    shows_few c [] (record { rest = for_asked (opened_at at_work) c; is = refl }) refl (λ from. at_none (IsOpening from) (λ before. IsTurn c from (seen before))) (λ from. tt) (λ to. tt) tt
+    (at_none IsAny (Each IsDone))
 
 -- What stands after the reads of the specification, for a command.
 record Tail (c : Command) (rest : List Did) : Type 0 where
   opens : (openings rest ≡ []) ⊎ (openings rest ≡ trace_files c)
   makes : creations rest ≡ []
   spec : Each (IsNoRead Spec) rest
-  ends : StopsAtEnd Trace rest
+  ends : StopsAtEnds rest
   pieces : ReadsPieces rest
   silent : Each (IsNoGift Err) rest
 
@@ -130,8 +141,11 @@ module _ (name : List ℕ) (reads : List Did) (r : ReadsSpec reads) where
   abbrev front : List Did
   front = Opened Spec name ∷ reads
 
+  front_no_read : (from : Slot) → same_slot Spec from ≡ false → Each (IsNoRead from) front
+  front_no_read from other = (tt, each_take (IsNoRead from) Spec (λ bytes short. other) other reads r.only)
+
   pub front_no_trace : Each (IsNoRead Trace) front
-  front_no_trace = (tt, each_take (IsNoRead Trace) Spec (λ bytes short. refl) refl reads r.only)
+  front_no_trace = front_no_read Trace refl
 
   pub front_no_gift : (to : Channel) → Each (IsNoGift to) front
   front_no_gift to = (tt, each_take (IsNoGift to) Spec (λ bytes short. tt) tt reads r.only)
@@ -152,9 +166,23 @@ module _ (name : List ℕ) (reads : List Did) (r : ReadsSpec reads) where
   front_creations : (rest : List Did) → creations (front ++ rest) ≡ creations rest
   front_creations rest = creations-append reads rest ∙ ap (λ (l : List (Channel × List ℕ)). l ++ creations rest) (creations_none reads transfers)
 
-  -- no opening of the trace stands in the front
-  no_opening_front : Each (λ did. IsOpening Trace did → ⊥) front
-  no_opening_front = ((λ (same : false ≡ true). cc), no_opening_in Trace reads transfers)
+  -- no opening of another slot stands in the front
+  no_opening_front : (from : Slot) → same_slot Spec from ≡ false → Each (λ did. IsOpening from did → ⊥) front
+  no_opening_front from other = ((λ (same : same_slot Spec from ≡ true). let bad : false ≡ true = sym other ∙ same in cc), no_opening_in from reads transfers)
+
+  -- no read of the front follows the end of its file
+  front_ends : (from : Slot) → StopsAtEnd from front
+  front_ends slot.Spec = at_weaker (IsRead Spec) MayReadSpec (λ before. ended Spec before ≡ false) front (λ before h. h.unended) front_reads
+  front_ends slot.Trace = at_no_read slot.Trace (λ before. ended slot.Trace before ≡ false) front (front_no_read slot.Trace refl)
+  front_ends slot.State = at_no_read slot.State (λ before. ended slot.State before ≡ false) front (front_no_read slot.State refl)
+  front_ends slot.Code = at_no_read slot.Code (λ before. ended slot.Code before ≡ false) front (front_no_read slot.Code refl)
+
+  -- nor of what is after it
+  ends_after_front : (rest : List Did) → Each (IsNoRead Spec) rest → StopsAtEnds rest → (from : Slot) → StopsAtEnd from (front ++ rest)
+  ends_after_front rest spec ends slot.Spec = at_more slot.Spec (λ before. ended slot.Spec before ≡ false) front rest (front_ends slot.Spec) spec
+  ends_after_front rest spec ends slot.Trace = stops_after slot.Trace front rest (front_no_read slot.Trace refl) (ends slot.Trace)
+  ends_after_front rest spec ends slot.State = stops_after slot.State front rest (front_no_read slot.State refl) (ends slot.State)
+  ends_after_front rest spec ends slot.Code = stops_after slot.Code front rest (front_no_read slot.Code refl) (ends slot.Code)
 
   -- nothing follows a call that failed
   stops_front : StopsAtFailure front
@@ -188,22 +216,53 @@ module _ (name : List ℕ) (reads : List Did) (r : ReadsSpec reads) where
     pub all_whole : (x : Seen) → HasWhole Spec x → AreWhole (program_files c) x
     all_whole x w = subst (λ (l : List (Slot × List ℕ)). AreWhole l x) (sym files_are) (w, tt)
 
-    shows_tail : (rest : List Did) → Tail c rest → AtAll (λ less. HasWhole Spec (seen (front ++ less))) rest → StopsAtFailure (front ++ rest)
+    -- entries of one kind stand in turn in what is after the front, as each does in turn of the specification
+    abbrev AreInTurn : (Slot → Did → Type 0) → List Did → Type 0
+    AreInTurn Q rest = (from : Slot) → same_slot Spec from ≡ false → AtEntries (Q from) (λ less. IsTurn (Some c) from (seen (front ++ less))) rest
+
+    spec_turn : (x : Seen) → IsTurn (Some c) Spec x
+    spec_turn x = subst (λ (l : List (Slot × List ℕ)). AreWholeBefore Spec (l ++ trace_files c) x) (sym files_are) (inl refl)
+
+    in_turn_after : (Q : Slot → Did → Type 0) (rest : List Did) → ((from : Slot) → same_slot Spec from ≡ false → Each (λ did. Q from did → ⊥) front) → AreInTurn Q rest
+        → (from : Slot) → AtEntries (Q from) (λ before. IsTurn (Some c) from (seen before)) (front ++ rest)
+    in_turn_after Q rest none turns =
+        of_each Q (λ from before. IsTurn (Some c) from (seen before)) (front ++ rest) (λ before. spec_turn (seen before))
+        (λ from other. at_join (Q from) (λ before. IsTurn (Some c) from (seen before)) front rest (at_not (Q from) (λ before. IsTurn (Some c) from (seen before)) front (none from other)) (turns from other))
+
+    -- none stands there
+    none_in_turn : (Q : Slot → Did → Type 0) (rest : List Did) → ((from : Slot) → Each (λ did. Q from did → ⊥) rest) → AreInTurn Q rest
+    none_in_turn Q rest none from other = at_not (Q from) (λ less. IsTurn (Some c) from (seen (front ++ less))) rest (none from)
+
+    no_reads_in_turn : (rest : List Did) → ((from : Slot) → Each (IsNoRead from) rest) → AreInTurn IsRead rest
+    no_reads_in_turn rest none = none_in_turn IsRead rest (λ from. each_more (IsNoRead from) (λ did. IsRead from did → ⊥) (not_read from) rest (none from))
+
+    -- those of the trace stand there alone
+    trace_in_turn : (Q : Slot → Did → Type 0) (rest : List Did) (name : List ℕ) → trace_files c ≡ (Trace, name) ∷ [] → AtAll (λ less. HasWhole Spec (seen (front ++ less))) rest
+        → ((from : Slot) → same_slot Trace from ≡ false → Each (λ did. Q from did → ⊥) rest) → AreInTurn Q rest
+    trace_in_turn Q rest file is is_whole none slot.Spec other = absurd (let bad : true ≡ false = other in cc)
+    trace_in_turn Q rest file is is_whole none slot.Trace other =
+        at_weaker (Q slot.Trace) (λ less. HasWhole Spec (seen (front ++ less))) (λ less. IsTurn (Some c) slot.Trace (seen (front ++ less))) rest
+        (λ less w. subst (λ (l : List (Slot × List ℕ)). AreWholeBefore slot.Trace (l ++ trace_files c) (seen (front ++ less))) (sym files_are)
+        (subst (λ (l : List (Slot × List ℕ)). AreWholeBefore slot.Trace ((Spec, name) ∷ l) (seen (front ++ less))) (sym is) (inr (w, inl refl))))
+        (at_fewer IsAny (Q slot.Trace) (λ less. HasWhole Spec (seen (front ++ less))) rest (λ did is. tt) is_whole)
+    trace_in_turn Q rest file is is_whole none slot.State other = at_not (Q slot.State) (λ less. IsTurn (Some c) slot.State (seen (front ++ less))) rest (none slot.State refl)
+    trace_in_turn Q rest file is is_whole none slot.Code other = at_not (Q slot.Code) (λ less. IsTurn (Some c) slot.Code (seen (front ++ less))) rest (none slot.Code refl)
+
+    shows_tail : (rest : List Did) → Tail c rest → AreInTurn IsOpening rest → AreInTurn IsRead rest → AtAll (λ less. HasWhole Spec (seen (front ++ less))) rest → StopsAtFailure (front ++ rest)
         → AtReads Trace (λ less. IsDueAtRead (Some c) (seen (front ++ less))) rest
         → AtReads Trace (λ less. GoesOnAtRead (Some c) (seen (front ++ less))) rest → IsPartlyDue (Some c) (seen (front ++ rest)) → Shows (Some c) (front ++ rest)
-    shows_tail rest tail is_whole stops due goes_on partly = record {
+    shows_tail rest tail openings_turn reads_turn is_whole stops due goes_on partly = record {
       opens = subst (λ (l : List (Slot × List ℕ)). Begins l (program_files c ++ trace_files c)) (sym (front_openings rest)) (opens_asked (openings rest) tail.opens);
       makes = front_creations rest ∙ tail.makes;
-      spec_first = at_join (IsOpening Trace) (λ before. HasWhole Spec (seen before)) front rest (at_not (IsOpening Trace) (λ before. HasWhole Spec (seen before)) front no_opening_front)
-          (at_fewer IsAny (IsOpening Trace) (λ less. HasWhole Spec (seen (front ++ less))) rest (λ did is. tt) is_whole);
-      trace_last = at_join (IsRead Trace) (λ before. HasWhole Spec (seen before)) front rest (at_no_read Trace (λ before. HasWhole Spec (seen before)) front front_no_trace)
-          (at_fewer IsAny (IsRead Trace) (λ less. HasWhole Spec (seen (front ++ less))) rest (λ did is. tt) is_whole);
+      in_turn = record {
+        opens = in_turn_after IsOpening rest no_opening_front openings_turn;
+        reads = in_turn_after IsRead rest (λ from other. each_more (IsNoRead from) (λ did. IsRead from did → ⊥) (not_read from) front (front_no_read from other)) reads_turn;
+      };
       writes_last = λ to other. at_join (IsGift to) (λ before. IsAllWhole (Some c) (seen before)) front rest
           (at_not (IsGift to) (λ before. IsAllWhole (Some c) (seen before)) front (each_more (IsNoGift to) (λ did. IsGift to did → ⊥) (not_gift to) front (front_no_gift to)))
           (at_weaker (IsGift to) (λ less. HasWhole Spec (seen (front ++ less))) (λ less. IsAllWhole (Some c) (seen (front ++ less))) rest (λ less w. all_whole (seen (front ++ less)) w)
           (at_fewer IsAny (IsGift to) (λ less. HasWhole Spec (seen (front ++ less))) rest (λ did is. tt) is_whole));
-      spec_ends = at_more Spec _ front rest (at_weaker (IsRead Spec) MayReadSpec _ front (λ before h. h.unended) front_reads) tail.spec;
-      trace_ends = at_after Trace (λ less. ended Trace less ≡ false) (λ before. ended Trace before ≡ false) front rest front_no_trace (λ less e. ended_after Trace front less front_no_trace ∙ e) tail.ends;
+      ends = ends_after_front rest tail.spec tail.ends;
       limit = at_more Spec _ front rest (at_weaker (IsRead Spec) MayReadSpec _ front (λ before h. h.within) front_reads) tail.spec;
       pieces = Each-append (IsWithin MOST_PIECE_BYTES) front rest front_pieces tail.pieces;
       stops = stops;
@@ -219,14 +278,14 @@ module _ (name : List ℕ) (reads : List Did) (r : ReadsSpec reads) where
       opens = inl refl;
       makes = refl;
       spec = tt;
-      ends = at_none (IsRead Trace) _;
+      ends = λ from. at_none (IsRead from) (λ before. ended from before ≡ false);
       pieces = tt;
       silent = tt;
     }
 
     shows_front : Shows (Some c) (front ++ [])
     shows_front =
-        shows_tail [] nothing_after (at_none IsAny _) (at_join IsAny (Each IsDone) front [] stops_front (at_none IsAny _)) (at_none (IsRead Trace) _)
+        shows_tail [] nothing_after (none_in_turn IsOpening [] (λ from. tt)) (no_reads_in_turn [] (λ from. tt)) (at_none IsAny _) (at_join IsAny (Each IsDone) front [] stops_front (at_none IsAny _)) (at_none (IsRead Trace) _)
         (at_none (IsRead Trace) _) (inl (given_none Out (front ++ []) (Each-append (IsNoGift Out) front [] (front_no_gift Out) tt)))
 
 -- a text is printed
@@ -242,7 +301,7 @@ module _ (name : List ℕ) (f : Form) (reads : List Did) (r : ReadsSpec reads) (
     opens = inl (openings_none part (gifts_transfer Out part p.writes.gifts));
     makes = creations_none part (gifts_transfer Out part p.writes.gifts);
     spec = no_spec_after;
-    ends = at_no_read Trace _ part no_trace_after;
+    ends = λ from. at_no_read from (λ before. ended from before ≡ false) part (gifts_read_none Out from part p.writes.gifts);
     pieces = gifts_within Out MOST_PIECE_BYTES part p.writes.gifts;
     silent = gifts_elsewhere Out Err refl part p.writes.gifts;
   }
@@ -258,7 +317,9 @@ module _ (name : List ℕ) (f : Form) (reads : List Did) (r : ReadsSpec reads) (
 
   shows_print : Shows (Some (command.Write name f)) (Opened Spec name ∷ (reads ++ part))
   shows_print =
-      shows_tail name reads r (command.Write name f) refl part print_after (whole_after name reads r source g part no_spec_after) (stops_after_front name reads r source g part p.writes.stops)
+      shows_tail name reads r (command.Write name f) refl part print_after
+      (none_in_turn name reads r (command.Write name f) refl IsOpening part (λ from. no_opening_in from part (gifts_transfer Out part p.writes.gifts)))
+      (no_reads_in_turn name reads r (command.Write name f) refl part (λ from. gifts_read_none Out from part p.writes.gifts)) (whole_after name reads r source g part no_spec_after) (stops_after_front name reads r source g part p.writes.stops)
       (at_no_read Trace _ part no_trace_after) (at_no_read Trace _ part no_trace_after)
       (inr (of_text (λ text. Begins (given Out (Opened Spec name ∷ (reads ++ part))) text)
       (subst (λ (l : List ℕ). Begins l p.text) (sym (given_after Out (Opened Spec name ∷ reads) part (front_no_gift name reads r Out))) p.some)))
@@ -283,7 +344,7 @@ module _ (run : Run) (reads : List Did) (r : ReadsSpec reads) where
     opens = inr refl;
     makes = refl;
     spec = (tt, tt);
-    ends = at_no_read Trace _ (NotOpened Trace run.trace ∷ []) (tt, tt);
+    ends = λ from. at_no_read from (λ before. ended from before ≡ false) (NotOpened Trace run.trace ∷ []) (tt, tt);
     pieces = (tt, tt);
     silent = (tt, tt);
   }
@@ -291,7 +352,10 @@ module _ (run : Run) (reads : List Did) (r : ReadsSpec reads) where
   module _ (source : List ℕ) (g : GivesSource source reads) where
     shows_no_trace : Shows (Some (command.Run run)) (front_of ++ NotOpened Trace run.trace ∷ [])
     shows_no_trace =
-        shows_tail run.spec reads r (command.Run run) refl (NotOpened Trace run.trace ∷ []) unopened_after (whole_after run.spec reads r source g (NotOpened Trace run.trace ∷ []) (tt, tt))
+        shows_tail run.spec reads r (command.Run run) refl (NotOpened Trace run.trace ∷ []) unopened_after
+        (trace_in_turn run.spec reads r (command.Run run) refl IsOpening (NotOpened Trace run.trace ∷ []) run.trace refl (whole_after run.spec reads r source g (NotOpened Trace run.trace ∷ []) (tt, tt))
+        (λ from other. ((λ (same : same_slot Trace from ≡ true). let bad : false ≡ true = sym other ∙ same in cc), tt)))
+        (no_reads_in_turn run.spec reads r (command.Run run) refl (NotOpened Trace run.trace ∷ []) (λ from. (tt, tt))) (whole_after run.spec reads r source g (NotOpened Trace run.trace ∷ []) (tt, tt))
         (stops_after_front run.spec reads r source g (NotOpened Trace run.trace ∷ []) (stops_one [] (NotOpened Trace run.trace) tt)) (at_no_read Trace _ (NotOpened Trace run.trace ∷ []) (tt, tt))
         (at_no_read Trace _ (NotOpened Trace run.trace ∷ []) (tt, tt))
         (inl (given_none Out (front_of ++ NotOpened Trace run.trace ∷ []) (Each-append (IsNoGift Out) front_of (NotOpened Trace run.trace ∷ []) no_out_in (tt, tt))))
@@ -347,19 +411,34 @@ module _ (run : Run) (reads : List Did) (r : ReadsSpec reads) where
         before_read : AtReads Trace (λ less. MayRead s o less × Each (IsNoRead Spec) less) part
         before_read before r = (w.reads before r, at_fewer IsAny (IsRead Trace) (Each (IsNoRead Spec)) part (λ did is. tt) (at_each (IsNoRead Spec) part spec_none) before r)
 
+        -- of each other slot nothing is read
+        no_other_read : (from : Slot) → same_slot Trace from ≡ false → Each (IsNoRead from) (Opened Trace run.trace ∷ part)
+        no_other_read from other = (tt, each_work (IsNoRead from) (λ bytes short. other) (λ bytes. tt) other tt part w.work)
+
+        trace_ends : (from : Slot) → StopsAtEnd from (Opened Trace run.trace ∷ part)
+        trace_ends slot.Spec = at_no_read slot.Spec (λ before. ended slot.Spec before ≡ false) (Opened Trace run.trace ∷ part) (no_other_read slot.Spec refl)
+        trace_ends slot.Trace = at_after slot.Trace (MayRead s o) (λ less. ended slot.Trace less ≡ false) (Opened slot.Trace run.trace ∷ []) part (tt, tt) (λ less h. h.unended) w.reads
+        trace_ends slot.State = at_no_read slot.State (λ before. ended slot.State before ≡ false) (Opened Trace run.trace ∷ part) (no_other_read slot.State refl)
+        trace_ends slot.Code = at_no_read slot.Code (λ before. ended slot.Code before ≡ false) (Opened Trace run.trace ∷ part) (no_other_read slot.Code refl)
+
         watched_after : Tail (command.Run run) (Opened Trace run.trace ∷ part)
         watched_after = record {
           opens = inr (ap (λ (l : List (Slot × List ℕ)). (Trace, run.trace) ∷ l) (openings_none part moves));
           makes = creations_none part moves;
           spec = (tt, spec_none);
-          ends = at_after Trace (MayRead s o) (λ less. ended Trace less ≡ false) (Opened Trace run.trace ∷ []) part (tt, tt) (λ less h. h.unended) w.reads;
+          ends = trace_ends;
           pieces = (tt, each_work (IsWithin MOST_PIECE_BYTES) (λ bytes short. short) (λ bytes. tt) tt tt part w.work);
           silent = (tt, each_work (IsNoGift Err) (λ bytes short. tt) (λ bytes. refl) tt refl part w.work);
         }
 
         pub shows_watched : Shows (Some (command.Run run)) (front_of ++ Opened Trace run.trace ∷ part)
         shows_watched =
-            shows_tail run.spec reads r (command.Run run) refl (Opened Trace run.trace ∷ part) watched_after (whole_after run.spec reads r source g (Opened Trace run.trace ∷ part) (tt, spec_none))
+            shows_tail run.spec reads r (command.Run run) refl (Opened Trace run.trace ∷ part) watched_after
+            (trace_in_turn run.spec reads r (command.Run run) refl IsOpening (Opened Trace run.trace ∷ part) run.trace refl (whole_after run.spec reads r source g (Opened Trace run.trace ∷ part) (tt, spec_none))
+            (λ from other. ((λ (same : same_slot Trace from ≡ true). let bad : false ≡ true = sym other ∙ same in cc), no_opening_in from part moves)))
+            (trace_in_turn run.spec reads r (command.Run run) refl IsRead (Opened Trace run.trace ∷ part) run.trace refl (whole_after run.spec reads r source g (Opened Trace run.trace ∷ part) (tt, spec_none))
+            (λ from other. each_more (IsNoRead from) (λ did. IsRead from did → ⊥) (not_read from) (Opened Trace run.trace ∷ part) (no_other_read from other)))
+            (whole_after run.spec reads r source g (Opened Trace run.trace ∷ part) (tt, spec_none))
             (stops_after_front run.spec reads r source g (Opened Trace run.trace ∷ part) (at_each_join IsDone (Opened Trace run.trace ∷ []) part (tt, tt) w.stops))
             (at_after Trace (λ less. MayRead s o less × Each (IsNoRead Spec) less)
             (λ less. OfItems (seen (front_of ++ less)) (λ items. IsDueAsMeant items o (taken Trace (front_of ++ less)) false (given Out (front_of ++ less)))) (Opened Trace run.trace ∷ []) part (tt, tt)
@@ -381,11 +460,15 @@ module _ (run : Run) (reads : List Did) (r : ReadsSpec reads) where
             }
 
 -- what a command shows that begins with a specification
-shows_name : (c : Command) (name : List ℕ) → program_files c ≡ (Spec, name) ∷ [] → (part : List Did) → ReadsName name part → Shows (Some c) part
+shows_name : (c : Command) (name : List ℕ) → program_files c ≡ (Spec, name) ∷ [] → (part : List Did) → ReadsName Spec MOST_SOURCE_BYTES name part → Shows (Some c) part
 shows_name c name files _ unopened = shows_none (Some c)
-shows_name c name files _ no_spec =
-    shows_few (Some c) (NotOpened Spec name ∷ []) (subst (λ (l : List (Slot × List ℕ)). Begins ((Spec, name) ∷ []) (l ++ trace_files c)) (sym files) (record { rest = trace_files c; is = refl })) refl
-    ((λ (same : false ≡ true). cc), tt) (tt, tt) (tt, tt) (λ to. (tt, tt)) (tt, tt) (stops_one [] (NotOpened Spec name) tt)
+shows_name c name files _ no_file =
+    shows_few (Some c) (NotOpened Spec name ∷ [])
+    (subst (λ (l : List (Slot × List ℕ)). Begins ((Spec, name) ∷ []) (l ++ trace_files c)) (sym files) (record { rest = trace_files c; is = refl })) refl
+    (of_each IsOpening (λ from before. IsTurn (Some c) from (seen before)) (NotOpened Spec name ∷ [])
+    (λ before. subst (λ (l : List (Slot × List ℕ)). AreWholeBefore Spec (l ++ trace_files c) (seen before)) (sym files) (inl refl))
+    (λ from other. at_not (IsOpening from) (λ before. IsTurn (Some c) from (seen before)) (NotOpened Spec name ∷ []) ((λ (same : same_slot Spec from ≡ true). let bad : false ≡ true = sym other ∙ same in cc), tt)))
+    (λ from. (tt, tt)) (λ to. (tt, tt)) (tt, tt) (stops_one [] (NotOpened Spec name) tt)
 shows_name c name files _ (reading reads r) = subst (λ (l : List Did). Shows (Some c) l) (ap (λ (l : List Did). Opened Spec name ∷ l) (append-nil reads)) (shows_front name reads r c files)
 
 shows_write : (name : List ℕ) (f : Form) (part : List Did) → Does (command.Write name f) part → Shows (Some (command.Write name f)) part
@@ -412,10 +495,11 @@ shows_alone : (c : Command) → program_files c ≡ [] → (P : List ℕ → Typ
 shows_alone c files P part says p = record {
   opens = record { rest = program_files c ++ trace_files c; is = ap (λ (l : List (Slot × List ℕ)). l ++ (program_files c ++ trace_files c)) (sym (openings_none part moves)) };
   makes = creations_none part moves;
-  spec_first = at_not (IsOpening Trace) (λ before. HasWhole Spec (seen before)) part (no_opening_in Trace part moves);
-  spec_ends = at_no_read Spec _ part (gifts_read_none Out Spec part p.writes.gifts);
-  trace_ends = at_no_read Trace _ part (gifts_read_none Out Trace part p.writes.gifts);
-  trace_last = at_no_read Trace (λ before. HasWhole Spec (seen before)) part (gifts_read_none Out Trace part p.writes.gifts);
+  in_turn = record {
+    opens = λ from. at_not (IsOpening from) (λ before. IsTurn (Some c) from (seen before)) part (no_opening_in from part moves);
+    reads = λ from. at_no_read from (λ before. IsTurn (Some c) from (seen before)) part (gifts_read_none Out from part p.writes.gifts);
+  };
+  ends = λ from. at_no_read from (λ before. ended from before ≡ false) part (gifts_read_none Out from part p.writes.gifts);
   writes_last = λ to other before at. subst (λ (l : List (Slot × List ℕ)). AreWhole l (seen before)) (sym files) tt;
   limit = at_no_read Spec _ part (gifts_read_none Out Spec part p.writes.gifts);
   pieces = gifts_within Out MOST_PIECE_BYTES part p.writes.gifts;

@@ -2,7 +2,7 @@
 use Rattle.std.proofs.Common.{ℕ, List, [], Result, Ok, refl}
 use Rattle.alias_rules.specs.Fine.{IsTakenPlan}
 use Rattle.register_code.specs.Code.{Code}
-use Rattle.spec_compiler.specs.Compiled.{CompilesSomething}
+use Rattle.compiled_meaning.specs.Compiled.{CompilesSomething}
 use Rattle.tsl_world.specs.declared.outside.Channel.TheVariants.{Out}
 use Rattle.tsl_world.specs.declared.outside.Did.{Did}
 use Rattle.tsl_world.specs.Journal.{Each, IsAny, IsDone}

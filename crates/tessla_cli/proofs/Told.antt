@@ -12,8 +12,8 @@ use Rattle.flat_core.specs.System.{System}
 use Rattle.monitor_run.specs.inner.State as engine
 use Rattle.sample_trace.specs.Trace.{trace_text}
 use Rattle.syntax_tree.specs.Tree as tree
-use Rattle.spec_reader.specs.declared.fault.SpecFault.{SpecFault}
-use Rattle.spec_compiler.specs.Compiled.{Compiles, IsRefusedBy}
+use Rattle.source_rules.specs.declared.fault.SpecFault.{SpecFault}
+use Rattle.compiled_meaning.specs.Compiled.{Compiles, IsRefusedBy}
 use Rattle.trace_monitor.specs.declared.ending.RunEnding.{RunEnding}
 use Rattle.trace_monitor.specs.declared.ending.RunEnding.TheVariants as run
 use Rattle.tsl_world.specs.Begins.{Begins, BeginsStrictly}
@@ -28,26 +28,26 @@ use Rattle.tsl_world.proofs.Journals.{given-append, Each-append, each_more}
 use Rattle.tsl_world.proofs.Untouched.{gift_elsewhere, gift_transfer, gifts_read_none, gifts_transfer, gifts_within, done_no_failed_gift, no_failed_gift, not_gift, same_channel_back, transfer_opens_none, given_after, given_none, openings_before, creations_before, openings_none}
 use Rattle.tsl_world.proofs.Telling.{seen_told}
 use Rattle.tsl_world.proofs.Places.{at_each_join, at_fewer, at_join, at_more, at_not, at_weaker}
-use Rattle.tessla_cli.specs.declared.ending.Ended.{Ended}
+use Rattle.tessla_cli.specs.declared.ended.Ended.{Ended}
 use Rattle.tessla_cli.specs.declared.ending.Ending.{Ending}
 use Rattle.tessla_cli.specs.declared.ending.Ending.TheVariants as ending
 use Rattle.trace_run.specs.declared.broken.Broken.{Broken}
 use Rattle.trace_run.specs.declared.broken.Broken.TheVariants as broken
 use Rattle.trace_run.specs.declared.run.Ran.{Ran}
 use Rattle.tessla_cli.specs.Alone.{BenchStops, IsTallyText}
-use Rattle.tessla_cli.specs.Asked.{for_asked, options_of, program_files}
+use Rattle.tessla_cli.specs.Asked.{asks_statistics, for_asked, options_of, program_files}
 use Rattle.tessla_cli.specs.Causes.{Cause, Stands}
 use Rattle.tessla_cli.specs.Conduct.{IsAllWhole, IsPartlyDue, StopsAtFailures}
 use Rattle.tessla_cli.specs.Endings.{OfEnding, ending_of}
 use Rattle.tessla_cli.specs.Failures.{Failures, NoneFailed, CallFailed, WriteFailed, SomeFailed}
 use Rattle.tessla_cli.specs.Headline.{OfSource}
 use Rattle.trace_run.specs.Meant.{WatchEndsAsMeant}
-use Rattle.tessla_cli.specs.Messages.{ended_text, broken_line, status_of}
-use Rattle.tessla_cli.specs.Outcome.{Ends, EndsWith, IsToldBefore, unasked, refused_before, counted, TellsFailure, told_failure, untold_ending, untold_memory, untold_failure, Outcome, told, outside, memory, ShowsAlways, Concludes, TellsBroken, all_of_broken, some_of_broken, TellsEnding, all_of_ending, some_of_ending, no_text}
-use Rattle.tessla_cli.specs.Stages.{HasWhole, at_program, at_work, opened_at, stage_of}
+use Rattle.tessla_cli.specs.Messages.{broken_line, status_of}
+use Rattle.tessla_cli.specs.Outcome.{Ends, EndsWith, IsToldBefore, unasked, refused_before, counted, TellsFailure, told_failure, untold_ending, untold_memory, untold_failure, Outcome, told, outside, memory, ShowsAlways, Concludes, TellsBroken, all_of_broken, some_of_broken, TellsEnding, all_of_ending, some_of_ending}
+use Rattle.tessla_cli.specs.Stages.{AreWholeBefore, HasWhole, at_program, at_work, opened_at, stage_of}
 use Rattle.tessla_cli.specs.Unseen.{NoUpdateIsSeen}
 use Rattle.trace_run.specs.Effects.{SystemEnds, Watched, WatchEnds, Writes, ends}
-use Rattle.tessla_cli.specs.inner.RunPhases.{ReadsSpec, GivesSource, Prints, SourceEnds, spec_refused, compiled_ends, HasMonitored, HasPrinted, HasWritten, whole_ends, AloneEnds, AloneIsDone, written, stopped, DoesAll, DoesAllAsked, WordsRefused}
+use Rattle.tessla_cli.specs.inner.RunPhases.{ReadsSpec, GivesSource, Prints, SourceEnds, spec_refused, compiled_ends, HasMonitored, HasPrinted, HasWritten, whole_ends, AloneEnds, AloneIsDone, written, stopped, DoesAll, DoesAllAsked, IsToldAfter, WordsRefused}
 use Rattle.trace_run.specs.Statistics.{AreStatistics, counted_text}
 use Rattle.tessla_cli.proofs.Failing.{call_and_none, call_and_write, none_and_write}
 use Rattle.tessla_cli.proofs.Facts.{Shows, all_whole, each_work, ends_after, front_no_gift, front_openings, of_source, of_text, statistics_after, taken_now, whole_now}
@@ -76,6 +76,16 @@ stops_not_words kind n (inr (how, ran, is)) = run_not_words how is
 
 never : {A : Type 0} → false ≡ true → A
 never is = absurd (true≢false (sym is))
+
+-- All that tells an ending: what is told before its line, and then the line.
+pub record IsToldBy (c : Option Command) (by : Ended) (x : Seen) : Type 0 where
+  pub before : List ℕ
+  pub is_before : IsToldBefore c by.ending x before
+  pub text_is : IsToldAfter before by
+
+-- the line alone, where no statistics are asked for
+told_by_line : (c : Option Command) (by : Ended) (x : Seen) → asks_statistics c ≡ false → IsToldAfter [] by → IsToldBy c by x
+told_by_line c by x not_asked line = record { before = []; is_before = unasked not_asked refl; text_is = line }
 
 -- A specification that is refused.
 module _ (c : Command) (name : List ℕ) (files : program_files c ≡ (Spec, name) ∷ []) (cause : (fault : SpecFault) (x : Seen) → IsRefusedBy (x.taken Spec) fault → Cause (Some c) x (ending.Spec fault))
@@ -118,9 +128,9 @@ module _ (name : List ℕ) (f : Form) where
       subst (λ (b : Ending). Stands (Some (command.Write name f)) b (seen (Opened Spec name ∷ (reads ++ rest)))) (sym h.ending) (text_stands reads r source g rest h.printed)
 
   written_before : (x : Seen) (source : List ℕ) (by : Ended) (rest : List Did) → SourceEnds source (HasWritten source f by) by rest
-      → IsToldBefore (Some (command.Write name f)) by.ending x by.statistics
-  written_before x source by rest (spec_refused same nothing refused none) = unasked refl nothing
-  written_before x source by rest (compiled_ends h) = unasked refl h.statistics
+      → IsToldBy (Some (command.Write name f)) by x
+  written_before x source by rest (spec_refused same line refused none) = told_by_line (Some (command.Write name f)) by x refl line
+  written_before x source by rest (compiled_ends h) = told_by_line (Some (command.Write name f)) by x refl h.told
 
 -- A run over a trace.
 module _ (r : Run) where
@@ -154,15 +164,15 @@ module _ (r : Run) where
         (whole_now r.spec reads read source g rest (no_spec_in part w)))
 
     -- what is told of the updates, with statistics or without
-    monitored_before : (stats : Bool) → r.stats ≡ stats → (rest : List Did) → SystemEnds r.trace s (options_of r) r.stats ran rest → by.statistics ≡ ran.statistics
-        → IsToldBefore (Some (command.Run r)) by.ending (seen (Opened Spec r.spec ∷ (reads ++ rest))) by.statistics
-    monitored_before false is _ (ends state part taken_plan w e told_is) by_told = unasked is (by_told ∙ told_is ∙ ap (counted_text s state) is)
-    monitored_before true is _ (ends state part taken_plan w e told_is) by_told =
+    monitored_before : (stats : Bool) → r.stats ≡ stats → (rest : List Did) → SystemEnds r.trace s (options_of r) r.stats ran rest
+        → IsToldBefore (Some (command.Run r)) by.ending (seen (Opened Spec r.spec ∷ (reads ++ rest))) ran.statistics
+    monitored_before false is _ (ends state part taken_plan w e told_is) = unasked is (told_is ∙ ap (counted_text s state) is)
+    monitored_before true is _ (ends state part taken_plan w e told_is) =
         let rest = Opened Trace r.trace ∷ part in
         let x = seen (all rest) in
         counted r refl is
-        (of_source r reads read source g items s c rest (λ items s. OfEnding by.ending (λ how. AreStatistics s (options_of r) (x.taken Trace) (x.ended Trace) how by.statistics)) (no_spec_in part w)
-        record { how = ran.ending; by_is = by_is; holds = statistics_after r reads read source g items s c state taken_plan ran.ending part by.statistics e (by_told ∙ told_is ∙ ap (counted_text s state) is) })
+        (of_source r reads read source g items s c rest (λ items s. OfEnding by.ending (λ how. AreStatistics s (options_of r) (x.taken Trace) (x.ended Trace) how ran.statistics)) (no_spec_in part w)
+        record { how = ran.ending; by_is = by_is; holds = statistics_after r reads read source g items s c state taken_plan ran.ending part ran.statistics e (told_is ∙ ap (counted_text s state) is) })
 
   trace_stands : (reads : List Did) (read : ReadsSpec reads) (source : List ℕ) (g : GivesSource source reads) (by : Ended) (rest : List Did)
       → SourceEnds source (HasMonitored source r by) by rest → Stands (Some (command.Run r)) by.ending (seen (Opened Spec r.spec ∷ (reads ++ rest)))
@@ -174,9 +184,14 @@ module _ (r : Run) where
   not_at_work by fault same at = absurd (let e : at_program ≡ at_work = sym (ap stage_of same) ∙ at in cc)
 
   trace_before : (reads : List Did) (read : ReadsSpec reads) (source : List ℕ) (g : GivesSource source reads) (by : Ended) (rest : List Did)
-      → SourceEnds source (HasMonitored source r by) by rest → IsToldBefore (Some (command.Run r)) by.ending (seen (Opened Spec r.spec ∷ (reads ++ rest))) by.statistics
-  trace_before reads read source g by rest (spec_refused {fault} same nothing refused none) = refused_before (not_at_work by.ending fault same) nothing
-  trace_before reads read source g by rest (compiled_ends h) = monitored_before reads read source g h.items h.system h.compiles h.ran by h.ending r.stats refl rest h.ends h.statistics
+      → SourceEnds source (HasMonitored source r by) by rest → IsToldBy (Some (command.Run r)) by (seen (Opened Spec r.spec ∷ (reads ++ rest)))
+  trace_before reads read source g by rest (spec_refused {fault} same line refused none) =
+      record { before = []; is_before = refused_before (not_at_work by.ending fault same) refl; text_is = line }
+  trace_before reads read source g by rest (compiled_ends h) = record {
+    before = h.ran.statistics;
+    is_before = monitored_before reads read source g h.items h.system h.compiles h.ran by h.ending r.stats refl rest h.ends;
+    text_is = h.told;
+  }
 
 -- A text that needs no specification of the outside.
 sample_stands : (n : ℕ) (by : Ending) (part : List Did) → AloneIsDone (λ text. text ≡ trace_text n) (λ by. ⊥) by part → Stands (Some (command.Generate n)) by (seen part)
@@ -218,12 +233,12 @@ asked_stands (Some (command.Run r)) by _ (whole_ends reads rest source read g e)
 asked_stands (Some (command.Generate n)) by part does = sample_stands n by.ending part does.done
 asked_stands (Some (command.Bench kind n)) by part does = tally_stands kind n by.ending part does.done
 
-pub asked_before : (c : Option Command) (by : Ended) (part : List Did) → DoesAllAsked c by part → IsToldBefore c by.ending (seen part) by.statistics
-asked_before None by part does = unasked refl does.statistics
+pub asked_before : (c : Option Command) (by : Ended) (part : List Did) → DoesAllAsked c by part → IsToldBy c by (seen part)
+asked_before None by part does = told_by_line None by (seen part) refl does.told
 asked_before (Some (command.Write name f)) by _ (whole_ends reads rest source r g e) = written_before name f (seen (Opened Spec name ∷ (reads ++ rest))) source by rest e
 asked_before (Some (command.Run r)) by _ (whole_ends reads rest source read g e) = trace_before r reads read source g by rest e
-asked_before (Some (command.Generate n)) by part does = unasked refl does.statistics
-asked_before (Some (command.Bench kind n)) by part does = unasked refl does.statistics
+asked_before (Some (command.Generate n)) by part does = told_by_line (Some (command.Generate n)) by (seen part) refl does.told
+asked_before (Some (command.Bench kind n)) by part does = told_by_line (Some (command.Bench kind n)) by (seen part) refl does.told
 
 module _ (c : Option Command) (unseen : (x : Seen) → NoUpdateIsSeen c x) where
   module _ (part more : List Did) (w : Writes Err more) where
@@ -255,11 +270,12 @@ module _ (c : Option Command) (unseen : (x : Seen) → NoUpdateIsSeen c x) where
     shows_told s = record {
       opens = subst (λ (l : List (Slot × List ℕ)). Begins l (for_asked (opened_at at_work) c)) (sym (openings_before part more moves)) s.opens;
       makes = creations_before part more moves ∙ s.makes;
-      spec_first = after_writes (IsOpening Trace) (λ before. HasWhole Spec (seen before)) (λ did gift. transfer_opens_none Trace did (gift_transfer Err did gift)) s.spec_first;
-      trace_last = at_more Trace (λ before. HasWhole Spec (seen before)) part more s.trace_last (no_reads Trace);
+      in_turn = record {
+        opens = λ from. after_writes (IsOpening from) (λ before. AreWholeBefore from (for_asked (opened_at at_work) c) (seen before)) (λ did gift. transfer_opens_none from did (gift_transfer Err did gift)) (s.in_turn.opens from);
+        reads = λ from. at_more from (λ before. AreWholeBefore from (for_asked (opened_at at_work) c) (seen before)) part more (s.in_turn.reads from) (no_reads from);
+      };
       writes_last = λ to other. after_writes (IsGift to) (λ before. IsAllWhole c (seen before)) (λ did gift. not_gift to did (gift_elsewhere Err to (same_channel_back Err to ∙ other) did gift)) (s.writes_last to other);
-      spec_ends = at_more Spec _ part more s.spec_ends (no_reads Spec);
-      trace_ends = at_more Trace _ part more s.trace_ends (no_reads Trace);
+      ends = λ from. at_more from (λ before. ended from before ≡ false) part more (s.ends from) (no_reads from);
       limit = at_more Spec _ part more s.limit (no_reads Spec);
       pieces = Each-append _ part more s.pieces (gifts_within Err _ more gifts);
       stops = stops_told s.stops s.silent;
@@ -295,19 +311,18 @@ module _ (c : Option Command) (unseen : (x : Seen) → NoUpdateIsSeen c x) where
         with_outcome part more gifts shows before now status (outside is (untold_memory (none_and_write before mid now none write) (less_told part more gifts (broken_line broken.Memory) (given_none Err part shows.silent) less)))
 
     -- An ending is told.
-    pub concludes_ending : (by : Ended) → NoneFailed before mid → Stands c by.ending (seen part) → IsToldBefore c by.ending (seen part) by.statistics → TellsEnding by mid now status more
-        → Concludes c before now status (part ++ more)
-    concludes_ending by none held first (all_of_ending is gifts whole) =
+    pub concludes_ending : (by : Ended) → NoneFailed before mid → Stands c by.ending (seen part) → IsToldBy c by (seen part) → TellsEnding by mid now status more → Concludes c before now status (part ++ more)
+    concludes_ending by none held t (all_of_ending is gifts whole) =
         with_outcome part more gifts shows before now status (told by.ending is record {
           stands = still part more gifts (Stands c by.ending) held;
-          before = by.statistics;
-          is_before = still part more gifts (λ x. IsToldBefore c by.ending x by.statistics) first;
-          told = err_told part more gifts (given_none Err part shows.silent) ∙ whole;
+          before = t.before;
+          is_before = still part more gifts (λ x. IsToldBefore c by.ending x t.before) t.is_before;
+          told = err_told part more gifts (given_none Err part shows.silent) ∙ whole ∙ t.text_is;
         })
-    concludes_ending by none held first (some_of_ending is write gifts less) =
-        with_outcome part more gifts shows before now status (outside is (untold_ending (none_and_write before mid now none write) by.ending (still part more gifts (Stands c by.ending) held) by.statistics
-        (still part more gifts (λ x. IsToldBefore c by.ending x by.statistics) first) (less_told part more gifts (ended_text by) (given_none Err part shows.silent) less)))
-    concludes_ending by none held first (no_text tells) = concludes_memory none tells
+    concludes_ending by none held t (some_of_ending is write gifts less) =
+        with_outcome part more gifts shows before now status (outside is (untold_ending (none_and_write before mid now none write) by.ending (still part more gifts (Stands c by.ending) held) t.before
+        (still part more gifts (λ x. IsToldBefore c by.ending x t.before) t.is_before)
+        (subst (λ (l : List ℕ). BeginsStrictly (given Err (part ++ more)) l) t.text_is (less_told part more gifts by.text (given_none Err part shows.silent) less))))
 
   pub concludes_broken : (by : Broken) (before mid now : Failures) (status : ℕ) (part more : List Did) → (by ≡ broken.Outside → CallFailed before mid) → (by ≡ broken.Memory → NoneFailed before mid) → Shows c part
       → TellsBroken by mid now status more → Concludes c before now status (part ++ more)

@@ -1,8 +1,8 @@
 -- What `bench` writes, and how it ends where there is no tally.
 use Rattle.std.specs.Prelude.{◌≡◌, ◌⊎◌, List, ℕ}
 use Rattle.command_words.specs.declared.command.Workload.{Workload}
-use Rattle.spec_compiler.specs.Compiled.{IsRefusedBy}
-use Rattle.spec_reader.specs.declared.fault.SpecFault.{SpecFault}
+use Rattle.compiled_meaning.specs.Compiled.{IsRefusedBy}
+use Rattle.source_rules.specs.declared.fault.SpecFault.{SpecFault}
 use Rattle.trace_bench.specs.Bench.{IsBenched, source_of}
 use Rattle.trace_bench.specs.declared.outcome.Outcome.TheVariants as outcome
 use Rattle.trace_bench.specs.declared.tally.Tally.{Tally}

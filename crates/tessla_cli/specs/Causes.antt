@@ -5,7 +5,7 @@ use Rattle.command_words.specs.declared.command.Command.TheVariants as command
 use Rattle.command_words.specs.declared.command.Run.{Run}
 use Rattle.command_words.specs.declared.command.Workload.{Workload}
 use Rattle.sample_trace.specs.Trace.{trace_text}
-use Rattle.spec_compiler.specs.Compiled.{IsRefusedBy}
+use Rattle.compiled_meaning.specs.Compiled.{IsRefusedBy}
 use Rattle.trace_run.specs.Meant.{EndsAsMeant, WatchEndsAsMeant}
 use Rattle.tsl_world.specs.declared.outside.Channel.TheVariants.{Out}
 use Rattle.tsl_world.specs.declared.outside.Slot.TheVariants.{Spec, Trace}

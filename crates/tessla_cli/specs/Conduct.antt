@@ -9,33 +9,30 @@ use Rattle.trace_reader.specs.declared.limits.TheConstants.{MOST_PIECE_BYTES}
 use Rattle.trace_run.specs.Meant.{GoesOnAsMeant, BeginsAsMeant}
 use Rattle.tsl_world.specs.Begins.{Begins}
 use Rattle.tsl_world.specs.declared.outside.Did.{Did}
+use Rattle.tsl_world.specs.declared.outside.Slot.{Slot}
 use Rattle.tsl_world.specs.declared.outside.Slot.TheVariants.{Spec, Trace}
 use Rattle.tsl_world.specs.declared.outside.Channel.{Channel}
 use Rattle.tsl_world.specs.declared.outside.Channel.TheVariants.{Out, Err}
 use Rattle.tsl_world.specs.Journal.{same_channel, taken, openings, creations, IsDone, IsGift, IsNoFailedGift, IsOpening, IsWithin}
-use Rattle.tsl_world.specs.Journal.{AtAll, AtEntries, AtReads, Each}
+use Rattle.tsl_world.specs.Journal.{AtAll, AtEntries, AtReads, Each, StopsAtEnd}
 use Rattle.tsl_world.specs.Seen.{Seen, seen}
 use Rattle.tessla_cli.specs.Alone.{IsTallyText}
 use Rattle.tessla_cli.specs.Asked.{for_asked, options_of}
 use Rattle.tessla_cli.specs.Headline.{OfSource}
 use Rattle.tessla_cli.specs.Printed.{IsTextOf}
-use Rattle.tessla_cli.specs.Stages.{AreWhole, HasWhole, at_work, opened_at, whole_at}
+use Rattle.tessla_cli.specs.Stages.{AreWhole, AreWholeBefore, HasWhole, at_work, opened_at, whole_at}
 
 -- Nothing is made.
 abbrev pub MakesNothing : List Did → Type 0
 MakesNothing part = creations part ≡ []
 
--- The trace is opened only after the whole of the specification, or so much of it that it is too long.
-abbrev pub ReadsSpecFirst : List Did → Type 0
-ReadsSpecFirst part = AtEntries (IsOpening Trace) (λ before. HasWhole Spec (seen before)) part
-
--- So is the trace read: each read of it stands after the whole of the specification, or so much of it.
-abbrev pub ReadsTraceLast : List Did → Type 0
-ReadsTraceLast part = AtReads Trace (λ before. HasWhole Spec (seen before)) part
-
 -- No read of the specification follows once more of it was taken than it may have.
 abbrev pub StopsAtLimit : List Did → Type 0
 StopsAtLimit part = AtReads Spec (λ before. length (taken Spec before) ≤ MOST_SOURCE_BYTES) part
+
+-- No read of a file follows its end.
+abbrev pub StopsAtEnds : List Did → Type 0
+StopsAtEnds part = (from : Slot) → StopsAtEnd from part
 
 -- No read takes more bytes than one may.
 abbrev pub ReadsPieces : List Did → Type 0
@@ -58,6 +55,12 @@ module _ (c : Option Command) where
   -- not.
   abbrev pub OpensAsAsked : List Did → Type 0
   OpensAsAsked part = Begins (openings part) (for_asked (opened_at at_work) c)
+
+  -- A file is opened, and each read of it stands, only after the whole of those that the words name before it: the trace after the
+  -- specification, or so much of it that it is too long. Nothing is read that they do not name.
+  pub record TakesInTurn (part : List Did) : Type 0 where
+    pub opens : (from : Slot) → AtEntries (IsOpening from) (λ before. AreWholeBefore from (for_asked (opened_at at_work) c) (seen before)) part
+    pub reads : (from : Slot) → AtReads from (λ before. AreWholeBefore from (for_asked (opened_at at_work) c) (seen before)) part
 
   -- What the words ask to read whole first was read whole: the specification, where they name one.
   abbrev pub IsAllWhole : Seen → Type 0

@@ -6,8 +6,8 @@ use Rattle.command_words.specs.declared.command.Command.{Command}
 use Rattle.command_words.specs.declared.command.Command.TheVariants as command
 use Rattle.type_rules.specs.Kinds.{Kinds}
 use Rattle.flat_core.specs.System.{System}
-use Rattle.spec_compiler.specs.Compiled.{Compiles}
-use Rattle.spec_reader.specs.Source.{Specifies}
+use Rattle.compiled_meaning.specs.Compiled.{Compiles}
+use Rattle.source_rules.specs.Source.{Specifies}
 use Rattle.syntax_tree.specs.Tree as tree
 use Rattle.tsl_world.specs.Journal.{AtReads}
 use Rattle.tsl_world.specs.declared.outside.Channel.TheVariants.{Out}

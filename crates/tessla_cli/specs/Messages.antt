@@ -11,15 +11,14 @@ use Rattle.type_check.specs.declared.fault.Kind.{Kind}
 use Rattle.type_check.specs.declared.fault.TypeFault.{TypeFault}
 use Rattle.type_check.specs.declared.fault.TypeFault.TheVariants as types
 use Rattle.type_check.specs.Text.{kind_text as type_text}
-use Rattle.spec_reader.specs.declared.fault.FlatFault.{FlatFault}
-use Rattle.spec_reader.specs.declared.fault.FlatFault.TheVariants as flat
-use Rattle.spec_reader.specs.declared.fault.SpecFault.{SpecFault}
-use Rattle.spec_reader.specs.declared.fault.SpecFault.TheVariants as spec
+use Rattle.source_rules.specs.declared.fault.FlatFault.{FlatFault}
+use Rattle.source_rules.specs.declared.fault.FlatFault.TheVariants as flat
+use Rattle.source_rules.specs.declared.fault.SpecFault.{SpecFault}
+use Rattle.source_rules.specs.declared.fault.SpecFault.TheVariants as spec
 use Rattle.trace_reader.specs.declared.fault.TraceFault.{TraceFault}
 use Rattle.trace_reader.specs.declared.fault.TraceFault.TheVariants as trace
 use Rattle.tessla_cli.specs.declared.ending.Ending.{Ending}
 use Rattle.tessla_cli.specs.declared.ending.Ending.TheVariants as ending
-use Rattle.tessla_cli.specs.declared.ending.Ended.{Ended}
 use Rattle.trace_run.specs.declared.broken.Broken.{Broken}
 use Rattle.trace_run.specs.declared.broken.Broken.TheVariants as broken
 
@@ -132,10 +131,6 @@ ending_line (ending.Spec fault) = as_line (codes "spec " ++ spec_text fault)
 ending_line (ending.Trace fault) = as_line (codes "trace " ++ trace_text fault)
 ending_line (ending.Fault time kind place) = fault_line time kind place
 ending_line (ending.Limit count time) = as_line (limit_text count time)
-
--- what tells the end of a run: the statistics, and then the line of the ending
-abbrev pub ended_text : Ended → List ℕ
-ended_text e = e.statistics ++ ending_line e.ending
 
 -- what tells that a run was cut short
 abbrev pub broken_line : Broken → List ℕ

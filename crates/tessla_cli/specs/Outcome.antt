@@ -9,20 +9,20 @@ use Rattle.trace_run.specs.declared.broken.Broken.{Broken}
 use Rattle.trace_run.specs.declared.broken.Broken.TheVariants as broken
 use Rattle.tsl_world.specs.Begins.{BeginsStrictly}
 use Rattle.tsl_world.specs.declared.outside.Did.{Did}
-use Rattle.tsl_world.specs.declared.outside.Slot.TheVariants.{Spec, Trace}
+use Rattle.tsl_world.specs.declared.outside.Slot.TheVariants.{Trace}
 use Rattle.tsl_world.specs.declared.outside.Channel.TheVariants.{Err}
-use Rattle.tsl_world.specs.Journal.{given, StopsAtEnd}
+use Rattle.tsl_world.specs.Journal.{given}
 use Rattle.tsl_world.specs.Seen.{Seen, seen}
-use Rattle.tessla_cli.specs.declared.ending.Ended.{Ended}
+use Rattle.tessla_cli.specs.declared.ended.Ended.{Ended}
 use Rattle.tessla_cli.specs.declared.ending.Ending.{Ending}
 use Rattle.tessla_cli.specs.Asked.{asks_statistics, options_of}
 use Rattle.tessla_cli.specs.Causes.{Cause, Stands}
-use Rattle.tessla_cli.specs.Conduct.{OpensAsAsked, MakesNothing, ReadsSpecFirst, ReadsTraceLast, StopsAtLimit, ReadsPieces, GoesOnAtReads}
+use Rattle.tessla_cli.specs.Conduct.{OpensAsAsked, MakesNothing, TakesInTurn, StopsAtEnds, StopsAtLimit, ReadsPieces, GoesOnAtReads}
 use Rattle.tessla_cli.specs.Conduct.{IsPartlyDue, StopsAtFailures, WritesLast}
 use Rattle.tessla_cli.specs.Endings.{OfEnding}
 use Rattle.tessla_cli.specs.Failures.{Failures, NoneFailed, CallFailed, WriteFailed, BothFailed}
 use Rattle.tessla_cli.specs.Headline.{IsDueAtReads, OfSource}
-use Rattle.tessla_cli.specs.Messages.{ended_text, ending_line, broken_line, broken_status, status_of}
+use Rattle.tessla_cli.specs.Messages.{ending_line, broken_line, broken_status, status_of}
 use Rattle.tessla_cli.specs.Stages.{at_work, stage_of}
 use Rattle.tessla_cli.specs.Unseen.{NoUpdateIsSeen}
 
@@ -37,12 +37,11 @@ pub data TellsBroken (by : Broken) (before now : Failures) (status : ℕ) (part 
   some_of_broken : status ≡ 5 → WriteFailed before now → Writes Err part → BeginsStrictly (given Err part) (broken_line by)
       → TellsBroken by before now status part
 
--- An ending is told by its text in the same way, or else it is told that memory ran out for the text.
+-- An ending is told by its text in the same way.
 pub data TellsEnding (by : Ended) (before now : Failures) (status : ℕ) (part : List Did) : Type 0 where
-  all_of_ending : status ≡ status_of by.ending → Writes Err part → Tells (ended_text by) part → TellsEnding by before now status part
-  some_of_ending : status ≡ 5 → WriteFailed before now → Writes Err part → BeginsStrictly (given Err part) (ended_text by)
+  all_of_ending : status ≡ status_of by.ending → Writes Err part → Tells by.text part → TellsEnding by before now status part
+  some_of_ending : status ≡ 5 → WriteFailed before now → Writes Err part → BeginsStrictly (given Err part) by.text
       → TellsEnding by before now status part
-  no_text : TellsBroken broken.Memory before now status part → TellsEnding by before now status part
 
 module _ (c : Option Command) where
   -- This is told before the line of an ending: nothing, or the statistics of a run that was asked for them and did its work.
@@ -90,11 +89,9 @@ module _ (c : Option Command) where
   pub record ShowsAlways (part : List Did) : Type 0 where
     pub opens : OpensAsAsked c part
     pub makes : MakesNothing part
-    pub spec_first : ReadsSpecFirst part
-    pub trace_last : ReadsTraceLast part
+    pub in_turn : TakesInTurn c part
     pub writes_last : WritesLast c part
-    pub spec_ends : StopsAtEnd Spec part
-    pub trace_ends : StopsAtEnd Trace part
+    pub ends : StopsAtEnds part
     pub limit : StopsAtLimit part
     pub pieces : ReadsPieces part
     pub stops : StopsAtFailures part

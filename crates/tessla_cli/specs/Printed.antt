@@ -1,7 +1,7 @@
 -- What is printed of a specification that is compiled.
 use Rattle.std.specs.Prelude.{◌≡◌, ℕ, List, ◌++◌, codes, length}
 use Rattle.std.specs.Fmt.{decimal}
-use Rattle.alias_analysis.specs.declared.reason.Reason.{Reason}
+use Rattle.alias_nears.specs.declared.reason.Reason.{Reason}
 use Rattle.alias_rules.specs.Fine.{IsTakenPlan}
 use Rattle.choice_text.specs.Text.{show_text}
 use Rattle.flat_core.specs.System.{System}
@@ -9,7 +9,7 @@ use Rattle.program_text.specs.Text.{flat_text, running}
 use Rattle.register_code.specs.Code.{Code}
 use Rattle.register_code.specs.Text.{code_text}
 use Rattle.last_use.specs.Reasons.{AreReasons}
-use Rattle.spec_compiler.specs.Compiled.{Compiles}
+use Rattle.compiled_meaning.specs.Compiled.{Compiles}
 use Rattle.syntax_tree.specs.Tree as tree
 use Rattle.flat_core.specs.Updates.{running_updates}
 use Rattle.command_words.specs.declared.command.Form.{Form}

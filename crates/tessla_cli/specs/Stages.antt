@@ -4,6 +4,7 @@ use Rattle.command_words.specs.declared.command.Command.{Command}
 use Rattle.spec_lexer.specs.declared.limits.TheConstants.{MOST_SOURCE_BYTES}
 use Rattle.tsl_world.specs.declared.outside.Slot.{Slot}
 use Rattle.tsl_world.specs.declared.outside.Slot.TheVariants as slot
+use Rattle.tsl_world.specs.Journal.{same_slot}
 use Rattle.tsl_world.specs.Seen.{Seen}
 use Rattle.tessla_cli.specs.Asked.{program_files, trace_files}
 use Rattle.tessla_cli.specs.declared.ending.Ending.{Ending}
@@ -38,6 +39,12 @@ HasWhole from x = x.ended from ≡ true
 abbrev pub AreWhole : List (Slot × List ℕ) → Seen → Type 0
 AreWhole [] x = ⊤
 AreWhole (file ∷ files) x = HasWhole file.0 x × AreWhole files x
+
+-- What is read whole before a file in this slot is opened or read: each file that is named before it. Where none is named in the slot,
+-- nothing is opened in it or read.
+abbrev pub AreWholeBefore : Slot → List (Slot × List ℕ) → Seen → Type 0
+AreWholeBefore from [] x = ⊥
+AreWholeBefore from (file ∷ files) x = (same_slot file.0 from ≡ true) ⊎ (HasWhole file.0 x × AreWholeBefore from files x)
 
 -- nothing is given to Out where the program ends before its work
 abbrev pub is_silent : Stage → Bool

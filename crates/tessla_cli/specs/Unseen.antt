@@ -3,7 +3,7 @@ use Rattle.std.specs.Prelude.{⊤, List, Option, Some}
 use Rattle.command_words.specs.declared.command.Command.{Command}
 use Rattle.command_words.specs.declared.command.Command.TheVariants as command
 use Rattle.flat_core.specs.System.{System}
-use Rattle.spec_compiler.specs.Compiled.{Compiles}
+use Rattle.compiled_meaning.specs.Compiled.{Compiles}
 use Rattle.syntax_tree.specs.Tree as tree
 use Rattle.trace_monitor.specs.Due.{bound_in, lines_in}
 use Rattle.trace_monitor.specs.Ending.{InAll}

@@ -1,15 +1,12 @@
 // How a run ends.
 
-ghost use Rattle.std.specs.Prelude.{◌≡◌, ◌≢◌, [], IfOk};
+ghost use Rattle.std.specs.Prelude.{◌≡◌, ◌≢◌, IfOk};
 ghost use Rattle.tessla_cli.specs.Endings.{ending_of};
 
 use lift_func::fault::FaultKind;
-use spec_reader::fault::SpecFault;
-use std::alloc::Global;
+use source_rules::fault::SpecFault;
 use trace_monitor::ending::RunEnding;
 use trace_reader::fault::TraceFault;
-use trace_run::run::Ran;
-use tsl_value::bytes::Bytes;
 use tsl_value::memory::NoMemory;
 use tsl_value::place::Place;
 use tsl_value::time::Time;
@@ -47,38 +44,6 @@ pub fn ending_of(ending: RunEnding) -> Ending
         RunEnding::Trace(fault) => Ending::Trace(fault),
         RunEnding::Fault { time, kind, place } => Ending::Fault { time, kind, place },
         RunEnding::Limit { count, time } => Ending::Limit { count, time },
-    }
-}
-
-/// How a run ends, and what is told of its updates before that.
-#[derive(Drop)]
-pub struct Ended {
-    pub ending: Ending,
-    /// The statistics, where they are asked for. Else no bytes.
-    pub statistics: Bytes,
-}
-
-impl Ended {
-    /// An ending without statistics.
-    pub fn alone(alloc: Global, ending: Ending) -> Ended
-        ensures ending { result.ending ≡ ending }
-        ensures statistics { result.statistics ≡ [] }
-    {
-        Ended {
-            ending,
-            statistics: Bytes::new(alloc),
-        }
-    }
-
-    /// The ending of a run over a trace, with its statistics.
-    pub fn of(ran: Ran) -> Ended
-        ensures ending { result.ending ≡ ending_of ran.ending }
-        ensures statistics { result.statistics ≡ ran.statistics }
-    {
-        Ended {
-            ending: ending_of(ran.ending),
-            statistics: ran.statistics,
-        }
     }
 }
 

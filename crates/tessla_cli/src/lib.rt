@@ -4,10 +4,11 @@
 #![tactic(auto)]
 
 mod bench;
+pub mod ended;
 pub mod ending;
+mod file;
 mod print;
 mod report;
 mod run;
-mod source;
 pub mod tell;
 pub mod top;

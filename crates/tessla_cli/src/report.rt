@@ -1,17 +1,16 @@
 // What is told on the standard error.
 
-ghost use Rattle.std.specs.Prelude.{◌≡◌, ◌++◌, IfOk, OnOk};
-ghost use Rattle.tessla_cli.specs.Messages.{at_text, back_text, broken_line, broken_status, clash_text, cycle_text, ended_text};
+ghost use Rattle.std.specs.Prelude.{◌≡◌, ◌++◌, OnOk};
+ghost use Rattle.tessla_cli.specs.Messages.{at_text, back_text, broken_line, broken_status, clash_text, cycle_text};
 ghost use Rattle.tessla_cli.specs.Messages.{ending_line, flat_text, lex_text, limit_text, line_text, members_text, next_text, parse_text};
 ghost use Rattle.tessla_cli.specs.Messages.{spec_text, status_of, trace_text, twice_text, types_text, wrong_text};
 
-use crate::ending::{Ended, Ending};
+use crate::ending::Ending;
 use event_writer::fault::write_fault;
 use event_writer::place::print_place;
+use source_rules::fault::{FlatFault, SpecFault};
 use spec_lexer::fault::LexFault;
 use spec_parser::parse::ParseFault;
-use spec_reader::fault::{FlatFault, SpecFault};
-use std::alloc::Global;
 use trace_reader::fault::TraceFault;
 use trace_run::broken::Broken;
 use tsl_value::bytes::Bytes;
@@ -212,7 +211,7 @@ fn print_limit(count: u64, time: Time, out: &mut Bytes) -> Result<(), NoMemory>
 }
 
 /// Appends the line that tells an ending.
-fn print_ending(ending: &Ending, out: &mut Bytes) -> Result<(), NoMemory>
+pub fn print_ending(ending: &Ending, out: &mut Bytes) -> Result<(), NoMemory>
     ensures { OnOk result (out.new ≡ out.old ++ ending_line ending.now) }
 {
     match ending {
@@ -233,18 +232,6 @@ fn print_ending(ending: &Ending, out: &mut Bytes) -> Result<(), NoMemory>
             print_limit(*count, *time, out)?;
             out.push(b'\n')
         }
-    }
-}
-
-impl Ended {
-    /// What is told of the end of a run: the statistics, and then the line of the ending, if it has one.
-    pub fn text(&self, alloc: Global) -> Result<Bytes, NoMemory>
-        ensures { IfOk result (λ text. text ≡ ended_text self.now) }
-    {
-        let mut text = Bytes::new(alloc);
-        text.append(self.statistics.as_slice())?;
-        print_ending(&self.ending, &mut text)?;
-        Ok(text)
     }
 }
 

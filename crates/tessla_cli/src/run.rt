@@ -5,7 +5,8 @@ ghost use Rattle.alias_rules.specs.Fine.{IsTakenPlan};
 ghost use Rattle.command_words.specs.Words.{IsLimited, IsLimitedRun, command_of};
 ghost use Rattle.last_use.specs.Reasons.{AreReasons};
 ghost use Rattle.sample_trace.specs.Trace.{trace_text};
-ghost use Rattle.spec_compiler.specs.Compiled.{CompilesSomething};
+ghost use Rattle.compiled_meaning.specs.Compiled.{CompilesSomething};
+ghost use Rattle.spec_lexer.specs.declared.limits.TheConstants.{MOST_SOURCE_BYTES};
 ghost use Rattle.trace_run.specs.Limited.{AreLimited};
 ghost use Rattle.tsl_world.specs.Standing.{at_first, is_open};
 ghost use Rattle.tsl_world.specs.Runs.{Grows};
@@ -17,13 +18,15 @@ ghost use Rattle.tessla_cli.specs.inner.RunPhases.{HasWritten, Monitors, Prints,
 ghost use Rattle.tessla_cli.specs.inner.RunPhases.{SourceEnds, SpecEnds};
 
 use crate::bench::{Benched, outcome_of};
-use crate::ending::{Ended, Ending, refused};
+use crate::ended::Ended;
+use crate::ending::{Ending, refused};
+use crate::file::read_file;
 use crate::print::text_of;
-use crate::source::read_source;
 use command_words::command::{Command, Form, Run, Workload};
 use command_words::words::Words;
 use sample_trace::trace::sample_trace;
 use spec_compiler::compile::{Compiled, compile};
+use spec_lexer::limits::MOST_SOURCE_BYTES;
 use std::alloc::Global;
 use trace_monitor::options::Options;
 use trace_reader::limits::MOST_PIECE_BYTES;
@@ -72,8 +75,8 @@ fn print_source<W: World>(
         (SourceEnds source.now (HasWritten source.now form ended) ended)) }
 {
     match compile(alloc, source) {
-        Ok(compiled) => Ok(Ended::alone(alloc, print_text(alloc, world, form, &compiled)?)),
-        Err(fault) => Ok(Ended::alone(alloc, refused(fault)?)),
+        Ok(compiled) => Ok(Ended::alone(alloc, print_text(alloc, world, form, &compiled)?)?),
+        Err(fault) => Ok(Ended::alone(alloc, refused(fault)?)?),
     }
 }
 
@@ -119,8 +122,8 @@ fn run_source<W: World>(
             options_of(run),
             run.stats,
             buf,
-        )?)),
-        Err(fault) => Ok(Ended::alone(alloc, refused(fault)?)),
+        )?)?),
+        Err(fault) => Ok(Ended::alone(alloc, refused(fault)?)?),
     }
 }
 
@@ -139,11 +142,11 @@ fn read_spec<W: World>(
     ensures memory { IsErrOf result Broken.Memory → W.faults world.new ≡ W.faults world.old }
     ensures heard { W.unheard world.new ≡ W.unheard world.old }
     ensures trace { OnOk result (is_open (W.standing world.new) Slot.Trace ≡ false) }
-    ensures calls { Grows W.told W.journal world.old world.new (ReadsName name.now) }
-    ensures source { IfOk result (λ source. Grows W.told W.journal world.old world.new (GivesName name.now source)) }
+    ensures calls { Grows W.told W.journal world.old world.new (ReadsName Slot.Spec MOST_SOURCE_BYTES name.now) }
+    ensures source { IfOk result (λ source. Grows W.told W.journal world.old world.new
+        (GivesName Slot.Spec MOST_SOURCE_BYTES name.now source)) }
 {
-    world.open(Slot::Spec, name)?;
-    Ok(read_source(alloc, world, buf)?)
+    read_file(alloc, world, Slot::Spec, name, MOST_SOURCE_BYTES, buf)
 }
 
 /// Reads a specification and writes a text of it, by this buffer.
@@ -241,7 +244,7 @@ fn generate<W: World>(alloc: Global, world: &mut W, lines: u64) -> Result<Ended,
 {
     let text = sample_trace(alloc, lines)?;
     write_all(world, Channel::Out, text.as_slice())?;
-    Ok(Ended::alone(alloc, Ending::Done))
+    Ok(Ended::alone(alloc, Ending::Done)?)
 }
 
 /// Writes the tally of a bench, or tells how the program ends where there is none.
@@ -263,9 +266,9 @@ fn tell_bench<W: World>(
     match outcome_of(alloc, kind, lines)? {
         Benched::Text(text) => {
             write_all(world, Channel::Out, text.as_slice())?;
-            Ok(Ended::alone(alloc, Ending::Done))
+            Ok(Ended::alone(alloc, Ending::Done)?)
         }
-        Benched::Stops(ending) => Ok(Ended::alone(alloc, ending)),
+        Benched::Stops(ending) => Ok(Ended::alone(alloc, ending)?),
     }
 }
 
@@ -300,6 +303,6 @@ pub fn run<W: World>(alloc: Global, words: &Words, world: &mut W) -> Result<Ende
 {
     match words.command(alloc)? {
         Some(command) => Ok(perform(alloc, world, &command)?),
-        None => Ok(Ended::alone(alloc, Ending::Words)),
+        None => Ok(Ended::alone(alloc, Ending::Words)?),
     }
 }

@@ -5,9 +5,8 @@ ghost use Rattle.tsl_world.specs.Runs.{Runs};
 ghost use Rattle.tessla_cli.specs.Failures.{NoneFailed, WriteFailed, failures};
 ghost use Rattle.tessla_cli.specs.Outcome.{TellsBroken, TellsEnding};
 
-use crate::ending::Ended;
+use crate::ended::Ended;
 use crate::report::{broken_line, broken_status};
-use std::alloc::Global;
 use trace_run::broken::Broken;
 use trace_run::write::write_all;
 use tsl_world::{Channel, World};
@@ -30,17 +29,14 @@ pub fn tell_broken<W: World>(world: &mut W, broken: Broken) -> u8
 }
 
 /// Tells the end of a run on the standard error. The answer is the status.
-pub fn tell_ending<W: World>(alloc: Global, world: &mut W, ended: &Ended) -> u8
+pub fn tell_ending<W: World>(world: &mut W, ended: &Ended) -> u8
     ensures calm { (result ≡ 5 → ⊥) → W.faults world.new ≡ W.faults world.old }
     ensures outside { result ≡ 5 → WriteFailed (failures W.faults W.unheard world.old) (failures W.faults W.unheard world.new) }
     ensures answers { result ≤ 7 }
     ensures calls { Runs W.told W.journal W.standing world.old world.new
         (TellsEnding ended.now (failures W.faults W.unheard world.old) (failures W.faults W.unheard world.new) result) }
 {
-    let Ok(text) = ended.text(alloc) else {
-        return tell_broken(world, Broken::Memory);
-    };
-    match write_all(world, Channel::Err, text.as_slice()) {
+    match write_all(world, Channel::Err, ended.text.as_slice()) {
         Ok(()) => ended.ending.status(),
         Err(_) => 5,
     }

@@ -2,12 +2,11 @@
 
 ghost use Rattle.std.specs.Prelude.{◌≡◌, ◌<◌, ◌≤◌, ◌-◌, ◌^◌};
 ghost use Rattle.command_words.specs.Words.{command_of};
-ghost use Rattle.tsl_world.specs.Journal.{StopsAtEnd};
 ghost use Rattle.tsl_world.specs.Runs.{Grows};
 ghost use Rattle.tsl_world.specs.Seen.{seen};
 ghost use Rattle.tsl_world.specs.Standing.{at_first};
 ghost use Rattle.tessla_cli.specs.Completeness.{IsComplete};
-ghost use Rattle.tessla_cli.specs.Conduct.{OpensAsAsked, MakesNothing, ReadsSpecFirst, ReadsTraceLast, StopsAtLimit, ReadsPieces};
+ghost use Rattle.tessla_cli.specs.Conduct.{OpensAsAsked, MakesNothing, TakesInTurn, StopsAtEnds, StopsAtLimit, ReadsPieces};
 ghost use Rattle.tessla_cli.specs.Conduct.{GoesOnAtReads, IsPartlyDue, StopsAtFailures, WritesLast};
 ghost use Rattle.tessla_cli.specs.Failures.{SomeFailed, failures};
 ghost use Rattle.tessla_cli.specs.Headline.{IsDueAtReads};
@@ -20,7 +19,7 @@ use crate::tell::{tell_broken, tell_ending};
 use command_words::words::Words;
 use std::alloc::Global;
 use trace_run::broken::Broken;
-use tsl_world::{Slot, World};
+use tsl_world::World;
 
 /// Does what the words ask for and tells how it ended. The answer is the status.
 fn conclude<W: World>(alloc: Global, words: &Words, world: &mut W) -> u8
@@ -32,7 +31,7 @@ fn conclude<W: World>(alloc: Global, words: &Words, world: &mut W) -> u8
         (Concludes (command_of words.now) (failures W.faults W.unheard world.old) (failures W.faults W.unheard world.new) result) }
 {
     match run(alloc, words, world) {
-        Ok(ended) => tell_ending(alloc, world, &ended),
+        Ok(ended) => tell_ending(world, &ended),
         Err(broken) => tell_broken(world, broken),
     }
 }
@@ -67,12 +66,10 @@ pub fn tessla<W: World>(alloc: Global, words: &Words, world: &mut W) -> u8
     // What is opened, read and written, and in which order.
     ensures opens { Grows W.told W.journal world.old world.new (OpensAsAsked (command_of words.now)) }
     ensures makes { Grows W.told W.journal world.old world.new MakesNothing }
-    ensures spec_first { Grows W.told W.journal world.old world.new ReadsSpecFirst }
-    ensures trace_last { Grows W.told W.journal world.old world.new ReadsTraceLast }
+    ensures in_turn { Grows W.told W.journal world.old world.new (TakesInTurn (command_of words.now)) }
     ensures writes_last { Grows W.told W.journal world.old world.new (WritesLast (command_of words.now)) }
-    ensures spec_ends { Grows W.told W.journal world.old world.new (StopsAtEnd Slot.Spec) }
+    ensures ends { Grows W.told W.journal world.old world.new StopsAtEnds }
     ensures spec_limit { Grows W.told W.journal world.old world.new StopsAtLimit }
-    ensures trace_ends { Grows W.told W.journal world.old world.new (StopsAtEnd Slot.Trace) }
     ensures pieces { Grows W.told W.journal world.old world.new ReadsPieces }
 
     // What is done after a call that failed: a write to Err tells it, and nothing follows where that one failed.

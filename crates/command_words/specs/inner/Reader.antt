@@ -1,5 +1,5 @@
 -- How `clap` reads the words after a command's name, and what its matches say of them.
-use Rattle.std.specs.Prelude.{◌≡◌, ◌≤◌, ℕ, Bool, true, List, Option, Some, None, codes, length, nat_le, slice_get}
+use Rattle.std.specs.Prelude.{◌≡◌, ◌≤◌, ℕ, zero, suc, Bool, true, List, Option, Some, None, codes, length, nat_le, slice_get}
 use Rattle.clap.specs.Matches.{first_value, found_of, one_text}
 use Rattle.clap.specs.Simple.{App, new_app, new_rule, on_top, with_rule}
 use Rattle.clap.specs.Values.{bool_text}
@@ -21,11 +21,16 @@ abbrev pub flag_id : Flag → Text
 flag_id strict_flag = codes "strict"
 flag_id stats_flag = codes "stats"
 
-abbrev pub spec_rule : Rule
-spec_rule = record (new_rule (codes "spec")) { required = true }
+-- and those of the plain words, by their places
+abbrev pub word_id : ℕ → Text
+word_id zero = codes "first"
+word_id (suc zero) = codes "second"
+word_id (suc (suc zero)) = codes "third"
+word_id (suc (suc (suc n))) = codes "fourth"
 
-abbrev pub trace_rule : Rule
-trace_rule = new_rule (codes "trace")
+-- the first plain word is needed
+abbrev pub first_rule : Rule
+first_rule = record (new_rule (codes "first")) { required = true }
 
 -- an option, whose value is a text
 abbrev pub option_rule : Text → Rule
@@ -40,7 +45,10 @@ helpless_app = on_top (λ s. record s { disable_help_flag = true }) (new_app (co
 
 abbrev pub run_app : App
 run_app =
-    with_rule (with_rule (with_rule (with_rule (with_rule (with_rule (with_rule helpless_app spec_rule) trace_rule)
+    with_rule (with_rule (with_rule (with_rule (with_rule (with_rule (with_rule (with_rule (with_rule helpless_app first_rule)
+    (new_rule (codes "second")))
+    (new_rule (codes "third")))
+    (new_rule (codes "fourth")))
     (option_rule (codes "until")))
     (option_rule (codes "instants")))
     (option_rule (codes "bytes")))
@@ -49,12 +57,14 @@ run_app =
 
 -- the matches hold these pieces, of which each option and each flag stands once at most
 pub record Holds (ps : List Piece) (found : Found) : Type 0 where
-  pub first : first_value found (codes "spec") ≡ slice_get (plains ps) 0
-  pub second : first_value found (codes "trace") ≡ slice_get (plains ps) 1
+  pub first : first_value found (codes "first") ≡ slice_get (plains ps) 0
+  pub second : first_value found (codes "second") ≡ slice_get (plains ps) 1
+  pub third : first_value found (codes "third") ≡ slice_get (plains ps) 2
+  pub fourth : first_value found (codes "fourth") ≡ slice_get (plains ps) 3
   pub named : (name : Name) → first_value found (id_of name) ≡ slice_get (values name ps) 0
   pub flags : (f : Flag) → one_text found (flag_id f) ≡ Some (bool_text (nat_le 1 (length (uses f ps))))
   pub some_word : 1 ≤ length (plains ps)
-  pub few_words : length (plains ps) ≤ 2
+  pub few_words : length (plains ps) ≤ 4
   pub one_value : (name : Name) → length (values name ps) ≤ 1
   pub one_use : (f : Flag) → length (uses f ps) ≤ 1
 
@@ -65,7 +75,7 @@ Matches words m = (ps : List Piece) × (pieces None words ≡ Some ps) × Holds 
 -- the run that the values in the matches ask for
 abbrev pub run_found : Found → Bool → Bool → Option Run
 run_found found strict stats =
-    run_by (first_value found (codes "spec")) (first_value found (codes "trace")) (first_value found (codes "until"))
+    run_by (first_value found (codes "first")) (first_value found (codes "second")) (first_value found (codes "until"))
     (first_value found (codes "instants")) (first_value found (codes "bytes")) strict stats
 
 -- what the matches say of a flag

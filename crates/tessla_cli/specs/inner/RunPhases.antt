@@ -1,5 +1,5 @@
 -- The phases of a run, by what each adds to the journal.
-use Rattle.std.specs.Prelude.{◌≡◌, ℕ, ◌≤◌, Bool, false, List, [], ◌∷◌, ◌++◌, length, Option, Some, None}
+use Rattle.std.specs.Prelude.{◌≡◌, ◌⊎◌, ℕ, ◌<◌, ◌≤◌, Bool, true, false, List, [], ◌∷◌, ◌++◌, length, Option, Some, None}
 use Rattle.command_words.specs.declared.command.Command.{Command}
 use Rattle.command_words.specs.declared.command.Command.TheVariants as command
 use Rattle.command_words.specs.declared.command.Form.{Form}
@@ -7,9 +7,9 @@ use Rattle.command_words.specs.declared.command.Run.{Run}
 use Rattle.command_words.specs.declared.command.Workload.{Workload}
 use Rattle.flat_core.specs.System.{System}
 use Rattle.sample_trace.specs.Trace.{trace_text}
-use Rattle.spec_compiler.specs.Compiled.{Compiles, IsRefusedBy}
+use Rattle.compiled_meaning.specs.Compiled.{Compiles, IsRefusedBy}
 use Rattle.spec_lexer.specs.declared.limits.TheConstants.{MOST_SOURCE_BYTES}
-use Rattle.spec_reader.specs.declared.fault.SpecFault.{SpecFault}
+use Rattle.source_rules.specs.declared.fault.SpecFault.{SpecFault}
 use Rattle.syntax_tree.specs.Tree as tree
 use Rattle.trace_reader.specs.declared.limits.TheConstants.{MOST_PIECE_BYTES}
 use Rattle.trace_run.specs.declared.run.Ran.{Ran}
@@ -20,9 +20,8 @@ use Rattle.tsl_world.specs.declared.outside.Did.{Did}
 use Rattle.tsl_world.specs.declared.outside.Did.TheVariants.{Opened, NotOpened, NotTook, Took}
 use Rattle.tsl_world.specs.declared.outside.Slot.{Slot}
 use Rattle.tsl_world.specs.declared.outside.Slot.TheVariants.{Spec}
-use Rattle.tsl_world.specs.Seen.{seen}
 use Rattle.tsl_world.specs.Journal.{given, taken, ended, AtReads, IsDone, Each, StopsAtFailure}
-use Rattle.tessla_cli.specs.declared.ending.Ended.{Ended}
+use Rattle.tessla_cli.specs.declared.ended.Ended.{Ended}
 use Rattle.tessla_cli.specs.declared.ending.Ending.{Ending}
 use Rattle.tessla_cli.specs.declared.ending.Ending.TheVariants as ending
 use Rattle.tessla_cli.specs.declared.bench.Benched.{Benched}
@@ -30,31 +29,45 @@ use Rattle.tessla_cli.specs.declared.bench.Benched.TheVariants as comes
 use Rattle.tessla_cli.specs.Alone.{BenchStops, IsTallyText}
 use Rattle.tessla_cli.specs.Asked.{options_of}
 use Rattle.tessla_cli.specs.Endings.{ending_of}
+use Rattle.tessla_cli.specs.Messages.{ending_line}
 use Rattle.tessla_cli.specs.Printed.{IsTextOf}
-use Rattle.tessla_cli.specs.Stages.{HasWhole}
 
--- the specification may be read after this much of the journal
-pub record MayReadSpec (before : List Did) : Type 0 where
-  pub unended : ended Spec before ≡ false
-  pub within : length (taken Spec before) ≤ MOST_SOURCE_BYTES
+-- how a run ends is told by this text and then the line of the ending
+abbrev pub IsToldAfter : List ℕ → Ended → Type 0
+IsToldAfter before by = by.text ≡ before ++ ending_line by.ending
 
--- a read of the specification that takes no more than one may
+-- a file that may have so many bytes may be read on after this much of the journal
+pub record MayReadFile (from : Slot) (most : ℕ) (before : List Did) : Type 0 where
+  pub unended : ended from before ≡ false
+  pub within : length (taken from before) ≤ most
+
+-- a read of a file that takes no more than one may
 abbrev pub IsTake : Slot → Did → Type 0
 IsTake from (Took at bytes) = (at ≡ from) × (length bytes ≤ MOST_PIECE_BYTES)
 IsTake from (NotTook at) = at ≡ from
 IsTake from did = ⊥
 
--- the specification is read, and nothing else is done
-pub record ReadsSpec (part : List Did) : Type 0 where
-  pub only : Each (IsTake Spec) part
-  pub reads : AtReads Spec MayReadSpec part
+-- a file is read, and nothing else is done
+pub record ReadsFile (from : Slot) (most : ℕ) (part : List Did) : Type 0 where
+  pub only : Each (IsTake from) part
+  pub reads : AtReads from (MayReadFile from most) part
   pub stops : StopsAtFailure part
 
--- this is what was taken, and it is whole
-pub record GivesSource (source : List ℕ) (part : List Did) : Type 0 where
-  pub bytes_are : taken Spec part ≡ source
-  pub whole : HasWhole Spec (seen part)
+-- these bytes were taken of it, and they are all, or more than it may have
+pub record GivesFile (from : Slot) (most : ℕ) (bytes : List ℕ) (part : List Did) : Type 0 where
+  pub bytes_are : taken from part ≡ bytes
+  pub whole : (ended from part ≡ true) ⊎ (most < length (taken from part))
   pub done : Each IsDone part
+
+-- a specification is read
+abbrev pub MayReadSpec : List Did → Type 0
+MayReadSpec = MayReadFile Spec MOST_SOURCE_BYTES
+
+abbrev pub ReadsSpec : List Did → Type 0
+ReadsSpec = ReadsFile Spec MOST_SOURCE_BYTES
+
+abbrev pub GivesSource : List ℕ → List Did → Type 0
+GivesSource = GivesFile Spec MOST_SOURCE_BYTES
 
 -- a text of which this holds is given to Out, as far as it comes
 pub record PrintsText (P : List ℕ → Type 0) (part : List Did) : Type 0 where
@@ -98,7 +111,7 @@ pub data RunsSource (W : List Did → Type 0) (part : List Did) : Type 0 where
   compiled : W part → RunsSource W part
 
 pub data SourceEnds (source : List ℕ) (W : List Did → Type 0) (by : Ended) (part : List Did) : Type 0 where
-  spec_refused : {fault : SpecFault} → by.ending ≡ ending.Spec fault → by.statistics ≡ [] → IsRefusedBy source fault → part ≡ []
+  spec_refused : {fault : SpecFault} → by.ending ≡ ending.Spec fault → IsToldAfter [] by → IsRefusedBy source fault → part ≡ []
       → SourceEnds source W by part
   compiled_ends : W part → SourceEnds source W by part
 
@@ -115,28 +128,29 @@ pub record HasMonitored (source : List ℕ) (r : Run) (by : Ended) (part : List 
   pub compiles : Compiles source items system
   pub ran : Ran
   pub ending : by.ending ≡ ending_of ran.ending
-  pub statistics : by.statistics ≡ ran.statistics
+  pub told : IsToldAfter ran.statistics by
   pub ends : SystemEnds r.trace system (options_of r) r.stats ran part
 
 -- a text is written
 pub record HasWritten (source : List ℕ) (f : Form) (by : Ended) (part : List Did) : Type 0 where
   pub ending : by.ending ≡ ending.Done
-  pub statistics : by.statistics ≡ []
+  pub told : IsToldAfter [] by
   pub printed : HasPrinted source f part
 
--- a specification is read by its name
-pub data ReadsName (name : List ℕ) : List Did → Type 0 where
-  unopened : ReadsName name []
-  no_spec : ReadsName name (NotOpened Spec name ∷ [])
-  reading : (reads : List Did) → ReadsSpec reads → ReadsName name (Opened Spec name ∷ reads)
+-- a file is opened by its name and read
+pub data ReadsName (from : Slot) (most : ℕ) (name : List ℕ) : List Did → Type 0 where
+  unopened : ReadsName from most name []
+  no_file : ReadsName from most name (NotOpened from name ∷ [])
+  reading : (reads : List Did) → ReadsFile from most reads → ReadsName from most name (Opened from name ∷ reads)
 
--- to this source
-pub data GivesName (name source : List ℕ) : List Did → Type 0 where
-  given_name : (reads : List Did) → ReadsSpec reads → GivesSource source reads → GivesName name source (Opened Spec name ∷ reads)
+-- and gives these bytes
+pub data GivesName (from : Slot) (most : ℕ) (name bytes : List ℕ) : List Did → Type 0 where
+  given_name : (reads : List Did) → ReadsFile from most reads → GivesFile from most bytes reads
+      → GivesName from most name bytes (Opened from name ∷ reads)
 
--- and something is done with it, as far as it comes
+-- a specification is read, and something is done with it, as far as it comes
 pub data RunsSpec (name : List ℕ) (W : List ℕ → List Did → Type 0) : List Did → Type 0 where
-  unread : (part : List Did) → ReadsName name part → RunsSpec name W part
+  unread : (part : List Did) → ReadsName Spec MOST_SOURCE_BYTES name part → RunsSpec name W part
   whole : (reads rest : List Did) (source : List ℕ)
       → ReadsSpec reads
       → GivesSource source reads
@@ -160,7 +174,7 @@ Does (command.Bench kind n) = RunsAlone (IsTallyText kind n)
 
 -- and how it ends
 pub record AloneEnds (P : List ℕ → Type 0) (S : Ending → Type 0) (by : Ended) (part : List Did) : Type 0 where
-  pub statistics : by.statistics ≡ []
+  pub told : IsToldAfter [] by
   pub done : AloneIsDone P S by.ending part
 
 abbrev pub DoesAll : Command → Ended → List Did → Type 0
@@ -176,7 +190,7 @@ DoesAsked (Some c) part = Does c part
 
 pub record WordsRefused (by : Ended) (part : List Did) : Type 0 where
   pub ending : by.ending ≡ ending.Words
-  pub statistics : by.statistics ≡ []
+  pub told : IsToldAfter [] by
   pub nothing : part ≡ []
 
 abbrev pub DoesAllAsked : Option Command → Ended → List Did → Type 0

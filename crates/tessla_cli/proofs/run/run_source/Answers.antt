@@ -14,8 +14,8 @@ returns-in_err-run_code-in-Ok-clause-calls g c =
     grows_weaker g.W.World.told g.W.World.journal c.args.world.now c.run_code.new.world (RunsSystem run.trace s (options_of run)) (RunsSource (Monitors c.args.source.now run)) runs
     (λ p r. compiled record { items = compiles.0; system = s; compiles = compiles.1; runs = r })
 
-pub returns-in_ok-run_code-in-Ok-clause-calls : goal.returns-in_ok-run_code-in-Ok-clause-calls
-returns-in_ok-run_code-in-Ok-clause-calls g c =
+pub returns-in_err-of-in-Ok-clause-calls : goal.returns-in_err-of-in-Ok-clause-calls
+returns-in_err-of-in-Ok-clause-calls g c =
     let run = c.args.run.now in
     let s = c.in-Ok.compiled.code.system in
     let compiles = c.in-Ok.ensures.system in
@@ -23,16 +23,25 @@ returns-in_ok-run_code-in-Ok-clause-calls g c =
     grows_weaker g.W.World.told g.W.World.journal c.args.world.now c.run_code.new.world (RunsSystem run.trace s (options_of run)) (RunsSource (Monitors c.args.source.now run)) runs
     (λ p r. compiled record { items = compiles.0; system = s; compiles = compiles.1; runs = r })
 
-pub returns-in_ok-run_code-in-Ok-clause-ending : goal.returns-in_ok-run_code-in-Ok-clause-ending
-returns-in_ok-run_code-in-Ok-clause-ending g c =
+pub returns-in_ok-of-in-Ok-clause-calls : goal.returns-in_ok-of-in-Ok-clause-calls
+returns-in_ok-of-in-Ok-clause-calls g c =
+    let run = c.args.run.now in
+    let s = c.in-Ok.compiled.code.system in
+    let compiles = c.in-Ok.ensures.system in
+    let runs = rw (c.options_of.ensures.options, c.as_str.ensures) at c.run_code.ensures.calls in
+    grows_weaker g.W.World.told g.W.World.journal c.args.world.now c.run_code.new.world (RunsSystem run.trace s (options_of run)) (RunsSource (Monitors c.args.source.now run)) runs
+    (λ p r. compiled record { items = compiles.0; system = s; compiles = compiles.1; runs = r })
+
+pub returns-in_ok-of-in-Ok-clause-ending : goal.returns-in_ok-of-in-Ok-clause-ending
+returns-in_ok-of-in-Ok-clause-ending g c =
     let run = c.args.run.now in
     let s = c.in-Ok.compiled.code.system in
     let compiles = c.in-Ok.ensures.system in
     let all = rw (c.options_of.ensures.options, c.as_str.ensures) at c.in_ok-run_code-in-Ok.ensures.ending in
     grows_weaker g.W.World.told g.W.World.journal c.args.world.now c.run_code.new.world (SystemEnds run.trace s (options_of run) run.stats _) (SourceEnds c.args.source.now (HasMonitored c.args.source.now run _) _) all
-    (λ p r. compiled_ends record { items = compiles.0; system = s; compiles = compiles.1; ran = _; ending = c.of.ensures.ending; statistics = c.of.ensures.statistics; ends = r })
+    (λ p r. compiled_ends record { items = compiles.0; system = s; compiles = compiles.1; ran = _; ending = c.in_ok-of-in-Ok.ensures.ending; told = c.in_ok-of-in-Ok.ensures.text; ends = r })
 
-pub returns-in_ok-refused-in-Err-clause-ending : goal.returns-in_ok-refused-in-Err-clause-ending
-returns-in_ok-refused-in-Err-clause-ending g c =
+pub returns-in_ok-alone-in-Err-clause-ending : goal.returns-in_ok-alone-in-Err-clause-ending
+returns-in_ok-alone-in-Err-clause-ending g c =
     grows_none g.W.World.told g.W.World.journal c.args.world.now (SourceEnds c.args.source.now (HasMonitored c.args.source.now c.args.run.now _) _)
-    (spec_refused {fault = c.in-Err.fault} (c.alone.ensures.ending ∙ c.in_ok-refused-in-Err.ensures.ending) c.alone.ensures.statistics (c.in_ok-refused-in-Err.ensures.refused, c.in-Err.ensures.fault) refl)
+    (spec_refused {fault = c.in-Err.fault} (c.in_ok-alone-in-Err.ensures.ending ∙ c.in_ok-refused-in-Err.ensures.ending) c.in_ok-alone-in-Err.ensures.text (c.in_ok-refused-in-Err.ensures.refused, c.in-Err.ensures.fault) refl)

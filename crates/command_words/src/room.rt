@@ -1,0 +1,120 @@
+// Which words stand after a command's name.
+
+ghost use Rattle.std.specs.Prelude.{◌≡◌, ◌≤◌, ℕ, List, length, nat_le, slice_get};
+ghost use Rattle.clap.specs.Matches.{first_value, found_of};
+ghost use Rattle.command_words.specs.inner.Reader.{Holds, says};
+ghost use Rattle.command_words.specs.Words.{Piece, fits, flags_fit, one_room, options_fit, pair_room, plains, run_room};
+
+use clap::ArgMatches;
+
+/// How many plain words stand after a command's name at least and at most, how often each option or flag on how a trace is read,
+/// and how often each other one.
+#[derive(Clone, Copy)]
+pub struct Room {
+    pub least: u64,
+    pub most: u64,
+    pub limits: u64,
+    pub others: u64,
+}
+
+/// `SPEC`.
+pub fn one_room() -> Room
+    ensures { result ≡ one_room }
+{
+    Room {
+        least: 1,
+        most: 1,
+        limits: 0,
+        others: 0,
+    }
+}
+
+/// `SPEC [TRACE]` with all options and flags.
+pub fn run_room() -> Room
+    ensures { result ≡ run_room }
+{
+    Room {
+        least: 1,
+        most: 2,
+        limits: 1,
+        others: 1,
+    }
+}
+
+/// `KIND N`.
+pub fn pair_room() -> Room
+    ensures { result ≡ pair_room }
+{
+    Room {
+        least: 2,
+        most: 2,
+        limits: 0,
+        others: 0,
+    }
+}
+
+/// How many plain words stand.
+#[tactic(auto, using(crate::proofs::Rooms::four_words, crate::proofs::Rooms::three_words, crate::proofs::Rooms::two_words, crate::proofs::Rooms::one_word))]
+fn count_words(matches: &ArgMatches<'_>) -> u64
+    ensures { (ps : List Piece) → Holds ps (found_of matches.now) → result ≡ length (plains ps) }
+{
+    if matches.get_str("fourth").is_some() {
+        return 4;
+    }
+    if matches.get_str("third").is_some() {
+        return 3;
+    }
+    if matches.get_str("second").is_some() {
+        return 2;
+    }
+    1
+}
+
+/// Whether an option, which stands once at most, stands no more often than it may.
+#[tactic(auto, using(crate::proofs::Rooms::room_for_one, crate::proofs::Rooms::none_fits))]
+fn option_fits(matches: &ArgMatches<'_>, id: &str, most: u64) -> bool
+    ensures { (texts : List (List ℕ)) → first_value (found_of matches.now) id.now ≡ slice_get texts 0 → length texts ≤ 1
+        → result ≡ nat_le (length texts) most }
+{
+    if most > 0 {
+        return true;
+    }
+    matches.get_str(id).is_none()
+}
+
+/// Whether a flag does.
+fn flag_fits(matches: &ArgMatches<'_>, id: &str, most: u64) -> bool
+    ensures { (count : ℕ) → says (found_of matches.now) id.now (nat_le 1 count) → count ≤ 1 → result ≡ nat_le count most }
+{
+    if most > 0 {
+        return true;
+    }
+    !matches.get_flag(id)
+}
+
+/// Whether each option stands no more often than it may.
+fn options_fit(room: Room, matches: &ArgMatches<'_>) -> bool
+    ensures { (ps : List Piece) → Holds ps (found_of matches.now) → result ≡ options_fit room ps }
+{
+    option_fits(matches, "until", room.others)
+        && option_fits(matches, "instants", room.limits)
+        && option_fits(matches, "bytes", room.limits)
+}
+
+/// Whether each flag does.
+fn flags_fit(room: Room, matches: &ArgMatches<'_>) -> bool
+    ensures { (ps : List Piece) → Holds ps (found_of matches.now) → result ≡ flags_fit room ps }
+{
+    flag_fits(matches, "strict", room.limits) && flag_fits(matches, "stats", room.others)
+}
+
+/// Whether the pieces in the matches have room.
+pub fn fits(room: Room, matches: &ArgMatches<'_>) -> bool
+    ensures { (ps : List Piece) → Holds ps (found_of matches.now) → result ≡ fits room ps }
+{
+    let count = count_words(matches);
+    room.least <= count
+        && count <= room.most
+        && options_fit(room, matches)
+        && flags_fit(room, matches)
+}
