@@ -1,47 +1,23 @@
 // What is reached along carrier edges around an update.
 
 ghost use Rattle.std.specs.Prelude.{◌≡◌, ◌↔◌, ◌<◌, ℕ, List, length, IfOk, OnOk, IsTrue};
-ghost use Rattle.flat_core.specs.declared.equation.Op.TheVariants as op;
 ghost use Rattle.flat_core.specs.inner.Marks.{Spread, Spreading};
 ghost use Rattle.translation_order.specs.Order.{AreOfSteps};
 ghost use Rattle.alias_rules.specs.Roots.{Carries};
 ghost use Rattle.alias_rules.specs.Bypass.{PassesOver};
 ghost use Rattle.alias_paths.specs.inner.Pairs.{ArePairs};
 ghost use Rattle.alias_paths.specs.inner.Search.{marks_of, AreListed, MarkedAll};
-ghost use Rattle.alias_analysis.specs.inner.Contents.{IsOtherOfMerge, AreReachedAround, LeadsAround, IsSecondAround, IsPairAround};
+ghost use Rattle.alias_nears.specs.inner.Contents.{AreReachedAround, LeadsAround, IsSecondAround, IsPairAround};
 
 use crate::answers::Answers;
+use alias_nears::merges::other_of_merge;
 use alias_paths::links::Links;
 use alias_paths::numbers::Numbers;
 use alias_paths::reach::Search;
-use flat_core::equation::{Equation, Op};
 use flat_core::flat::Flat;
 use std::alloc::Global;
 use tsl_value::ids::EqId;
 use tsl_value::memory::NoMemory;
-
-pub(crate) fn is_merge(operation: &Op) -> bool
-    ensures { IsTrue result ↔ (operation.now ≡ op.Merge) }
-{
-    match operation {
-        Op::Merge => true,
-        _ => false,
-    }
-}
-
-/// The first of two arguments of a merge of which this is the second, if they differ.
-fn other_of_merge(equation: &Equation, second: EqId) -> Option<EqId>
-    ensures { IsOtherOfMerge equation.now second result }
-{
-    let arguments = equation.args.ids();
-    if !is_merge(&equation.op) || arguments.len() != 2 {
-        return None;
-    }
-    if arguments[1] != second || arguments[0] == second {
-        return None;
-    }
-    Some(arguments[0])
-}
 
 /// Whether an equation merges this one after another that has an event wherever the update has one.
 pub fn passes_over(

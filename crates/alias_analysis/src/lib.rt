@@ -7,7 +7,6 @@ mod bypass;
 mod conflict;
 mod constraints;
 pub mod graph;
-pub mod nears;
+mod nears;
 mod onward;
-pub mod reason;
 mod wider;

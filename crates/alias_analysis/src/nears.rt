@@ -7,14 +7,15 @@ ghost use Rattle.flat_core.specs.WellFormed.{IsWellFormed};
 ghost use Rattle.alias_rules.specs.Uses.{AreUpdates};
 ghost use Rattle.alias_paths.specs.inner.Kept.{AreUses, ArePaths};
 ghost use Rattle.alias_paths.specs.inner.Pairs.{ArePairs};
-ghost use Rattle.alias_analysis.specs.inner.Beginning.{NoneIsNil};
-ghost use Rattle.alias_analysis.specs.inner.Nears.{AreNear, AreNearEach, AreNears, AreShared, IsAdded};
+ghost use Rattle.alias_nears.specs.inner.Beginning.{NoneIsNil};
+ghost use Rattle.alias_nears.specs.inner.Nears.{AreNear, AreNearEach, AreNears, AreShared, IsAdded};
 
 use crate::answers::Answers;
-use crate::bypass::{Near, near_update};
-use crate::conflict::update_at;
-use crate::wider::{added, near_on};
-use alias_paths::numbers::Numbers;
+use crate::bypass::near_update;
+use crate::wider::near_on;
+use alias_nears::kept::update_at;
+use alias_nears::near::{Near, Nears};
+use alias_nears::writes::added;
 use alias_paths::paths::Paths;
 use alias_paths::uses::Uses;
 use flat_core::flat::Flat;
@@ -23,15 +24,6 @@ use std::alloc::Global;
 use translation_order::steps::Edges;
 use tsl_value::ids::EqId;
 use tsl_value::memory::NoMemory;
-
-/// What is near each update of a set, in the order of the set, and the stored variables.
-///
-/// It is made once for a set, and serves the question for a conflict and that for pairs of steps.
-#[derive(Drop)]
-pub struct Nears {
-    pub(crate) stored: Numbers,
-    pub(crate) updates: Vec<Near>,
-}
 
 fn near_each(
     alloc: Global,

@@ -8,8 +8,8 @@ use Rattle.flat_core.specs.declared.equation.Output.{Output}
 use Rattle.flat_core.specs.System.{System, equation}
 use Rattle.program_text.specs.Text.{label_text, name_or_number}
 use Rattle.flat_core.specs.Updates.{running_updates}
-use Rattle.alias_analysis.specs.declared.reason.Reason.{Reason}
-use Rattle.alias_analysis.specs.declared.reason.Reason.TheVariants as reason
+use Rattle.alias_nears.specs.declared.reason.Reason.{Reason}
+use Rattle.alias_nears.specs.declared.reason.Reason.TheVariants as reason
 
 -- what the print of an output is called
 abbrev pub print_text : Option Output → List ℕ

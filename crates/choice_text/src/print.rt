@@ -8,7 +8,7 @@ ghost use Rattle.program_text.specs.Text.{label_text};
 ghost use Rattle.choice_text.specs.Text.{cycle_text, how_text, print_text, reason_of};
 ghost use Rattle.choice_text.specs.Text.{reason_text, show_text, step_label, update_at, update_line};
 
-use alias_analysis::reason::Reason;
+use alias_nears::reason::Reason;
 use event_writer::place::print_place;
 use flat_core::equation::{Equation, Output};
 use flat_core::flat::Flat;

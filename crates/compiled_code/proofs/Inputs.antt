@@ -15,8 +15,8 @@ use Rattle.syntax_tree.specs.Tree as tree
 use Rattle.name_check.specs.Builtin.{is_built_in}
 use Rattle.name_check.specs.Faults.{again, twice_from, twice_in_params, twice_in_body}
 use Rattle.spec_meaning.specs.Inputs.{declared_inputs}
-use Rattle.spec_reader.proofs.TypedLemmas.{is_checked}
-use Rattle.spec_compiler.proofs.Inputs.{inputs_are_declared}
+use Rattle.source_rules.proofs.TypedLemmas.{is_checked}
+use Rattle.compiled_meaning.proofs.Inputs.{inputs_are_declared}
 use Rattle.compiled_code.specs.Laws.{CompiledHasNamedInputs}
 
 -- ---- names that are none of those before

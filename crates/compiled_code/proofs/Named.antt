@@ -7,7 +7,7 @@ use Rattle.flat_core.specs.Renumbered.{with_new_args, with_new_equation}
 use Rattle.flat_core.specs.System.{System}
 use Rattle.flat_core.proofs.Members.{all_map}
 use Rattle.syntax_tree.specs.Tree as tree
-use Rattle.spec_reader.specs.Source.{SpellsSystem}
+use Rattle.source_rules.specs.Source.{SpellsSystem}
 use Rattle.compiled_code.specs.Held.{IsShortName}
 use Rattle.compiled_code.specs.Laws.{CompiledHasShortNames}
 use Rattle.compiled_code.proofs.Tokens.{tokens_named}

@@ -15,8 +15,8 @@ use Rattle.stream_constructs.specs.declared.limits.TheConstants.{MOST_UPDATES}
 use Rattle.stream_constructs.specs.declared.maker.MakeFault.{MakeFault}
 use Rattle.macro_flatten.proofs.AllMarks.{refusals_are_those_of_marks}
 use Rattle.syntax_tree.specs.Tree as tree
-use Rattle.spec_reader.specs.Source.{SpellsSystem}
-use Rattle.spec_reader.proofs.TypedLemmas.{is_checked}
+use Rattle.source_rules.specs.Source.{SpellsSystem}
+use Rattle.source_rules.proofs.TypedLemmas.{is_checked}
 use Rattle.compiled_code.specs.Laws.{CompiledHasFewUpdates}
 
 -- ---- equations that are not refused have few updates

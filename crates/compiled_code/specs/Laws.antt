@@ -2,7 +2,7 @@
 use Rattle.std.specs.Prelude.{ℕ, List}
 use Rattle.flat_core.specs.System.{System}
 use Rattle.syntax_tree.specs.Tree as tree
-use Rattle.spec_compiler.specs.Compiled.{Compiles}
+use Rattle.compiled_meaning.specs.Compiled.{Compiles}
 use Rattle.compiled_code.specs.Held.{HasShortNames, HasNamedInputs, HasFewUpdates}
 
 abbrev pub CompiledHasShortNames : Type 0

@@ -3,7 +3,7 @@ use Rattle.std.specs.Prelude.{◌≡◌, ℕ, List}
 use Rattle.flat_core.specs.System.{System}
 use Rattle.syntax_tree.specs.Tree as tree
 use Rattle.register_code.specs.Code.{Code}
-use Rattle.spec_compiler.specs.Compiled.{Compiles}
+use Rattle.compiled_meaning.specs.Compiled.{Compiles}
 use Rattle.alike_systems.specs.Alike.{AreAlike}
 use Rattle.code_file.specs.Form.{HasSpelling, IsForm, bare_system}
 use Rattle.code_file.specs.Spelling.{spelling}

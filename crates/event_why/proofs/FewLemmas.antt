@@ -1,60 +1,17 @@
 -- No rule but that of gaps uses more than eight facts.
 use Rattle.std.proofs.Common.{◌≡◌, ℕ, suc, ◌≤◌, List, [], ◌∷◌, length, refl, arith}
 use Rattle.tsl_value.specs.View.{View}
-use Rattle.tsl_value.specs.declared.operation.Update.{Update}
-use Rattle.tsl_value.specs.declared.scalar.ValueType.{ValueType}
-use Rattle.lift_func.specs.Update.{UpdateTypes}
-use Rattle.lift_func.specs.Update as update_types
 use Rattle.flat_core.specs.declared.equation.Equation.{Equation}
 use Rattle.flat_core.specs.declared.equation.Op.{Op}
 use Rattle.flat_core.specs.Complete.{IsFlat}
 use Rattle.flat_core.specs.Events.{Inputs}
 use Rattle.flat_core.specs.System.{System, equation}
-use Rattle.flat_core.specs.Typed.{IsTyped}
-use Rattle.flat_core.specs.Typed as typed
-use Rattle.flat_core.specs.TypedSystem.{AreOfTypes}
+use Rattle.flat_core.proofs.FewArguments.{args_few}
 use Rattle.why_rules.specs.Facts.{Fact, Happens, Silent, Gap, Pending}
 use Rattle.why_rules.specs.Rules.{TellsEach, SilentBetween, Makes, Lacks, Keeps, Follows}
 use Rattle.why_rules.specs.Rules as rule
 use Rattle.std.specs.Prelude.{Option, Some}
 use Rattle.event_why.specs.inner.Search.{FollowsSo}
-
-update_few : (u : Update) (t : ValueType) (ts : List ValueType) → UpdateTypes u t ts → length ts ≤ 2
-update_few u t ts (update_types.UpdateTypes.set_add is) = omega arith
-update_few u t ts (update_types.UpdateTypes.set_remove is) = omega arith
-update_few u t ts (update_types.UpdateTypes.map_add is) = omega arith
-update_few u t ts (update_types.UpdateTypes.map_remove is) = omega arith
-update_few u t ts update_types.UpdateTypes.queue_add = omega arith
-update_few u t ts update_types.UpdateTypes.queue_take = omega arith
-
-types_few : (o : Op) (types : List ValueType) (of : ValueType) → IsTyped o types of → length types ≤ 8
-types_few o types of typed.IsTyped.input = omega arith
-types_few o types of typed.IsTyped.nil = omega arith
-types_few o types of typed.IsTyped.unit = omega arith
-types_few o types of (typed.IsTyped.empty is) = omega arith
-types_few o types of typed.IsTyped.time = omega arith
-types_few o types of (typed.IsTyped.any low high) = high
-types_few o types of typed.IsTyped.last = omega arith
-types_few o types of typed.IsTyped.delay = omega arith
-types_few o types of typed.IsTyped.merge = omega arith
-types_few o types of typed.IsTyped.filter = omega arith
-types_few o types of (typed.IsTyped.pick is) = omega arith
-types_few o types of (typed.IsTyped.update {u = u} {t = t} {ts = ts} is row) = let few = update_few u t ts row in omega (arith, few)
-types_few o types of (typed.IsTyped.lift low high kind) = high
-
-module _ (s : System) where
-  as_many : (args : List ℕ) (types : List ValueType) → AreOfTypes s.equations args types → length args ≡ length types
-  as_many [] [] of = refl
-  as_many [] (t ∷ types) of = absurd of
-  as_many (a ∷ args) [] of = absurd of
-  as_many (a ∷ args) (t ∷ types) of = let rest = as_many args types of.1 in omega (arith, rest)
-
-  args_few : IsFlat s → (i : ℕ) (e : Equation) → equation s i ≡ Some e → length e.args ≤ 8
-  args_few whole i e at =
-      let g = whole.complete.typed.each i e at in
-      let few = types_few e.op g.types e.of g.typed in
-      let same = as_many e.args g.types g.arguments in
-      omega (arith, few, same)
 
 tells_few : (t : ℕ) (args : List ℕ) (vs : List (Option View)) (fs : List Fact) → TellsEach t args vs fs → length fs ≡ length args
 tells_few t args vs fs rule.TellsEach.done = refl

@@ -10,8 +10,8 @@ ghost use Rattle.event_why.specs.inner.Agrees.{Agrees, TakesTold};
 
 use crate::fact::Fact;
 use crate::told::told;
+use body_eval::eval::EvalFault;
 use flat_core::equation::Equation;
-use lift_func::eval::EvalFault;
 use plain_solver::at_once::at_once;
 use plain_solver::value::Value;
 use std::alloc::Global;

@@ -29,11 +29,11 @@ ghost use Rattle.event_why.specs.inner.Tale.{Tale};
 
 use crate::draft::Draft;
 use crate::fact::Fact;
+use body_eval::eval::EvalFault;
 use flat_core::equation::{Equation, Op};
 use flat_core::flat::Flat;
 use flat_core::line::TraceLine;
 use flat_core::lists::Args;
-use lift_func::eval::EvalFault;
 use lift_func::fault::FaultKind;
 use plain_solver::at_once::at_once;
 use plain_solver::events::Outcome;

@@ -10,6 +10,7 @@ pub mod Members
 pub mod Rising
 pub mod UpdateOps
 pub mod Shapes
+pub mod FewArguments
 pub mod Answered
 pub mod MarkLemmas
 pub mod Spreads

@@ -57,7 +57,7 @@ module _ (equations : List Equation) (P : List ℕ → Type 0) where
   three_of t u v (a ∷ b ∷ c ∷ []) of p = p a b c
   three_of t u v (a ∷ b ∷ c ∷ d ∷ args) of p = absurd of.1.1.1
 
-same_length : (equations : List Equation) (args : List ℕ) (ts : List ValueType) → AreOfTypes equations args ts → length args ≡ length ts
+pub same_length : (equations : List Equation) (args : List ℕ) (ts : List ValueType) → AreOfTypes equations args ts → length args ≡ length ts
 same_length equations [] [] of = refl
 same_length equations [] (t ∷ ts) of = absurd of
 same_length equations (a ∷ args) [] of = absurd of
@@ -85,3 +85,11 @@ pub shape_of : (s : System) → IsFlat s → (i : ℕ) (e : Equation) → equati
 shape_of s flat i e is =
     let typed = flat.complete.typed.each i e is in
     typed_shape s.equations e.op e.args typed.types e.of typed.typed typed.arguments
+
+-- a delay has two arguments
+pub delay_args : (s : System) → IsFlat s → (i : ℕ) (e : Equation) → equation s i ≡ Some e → e.op ≡ op.Delay → (d : ℕ) × (r : ℕ) × (e.args ≡ d ∷ r ∷ [])
+delay_args s flat i e is op_is = from e.args (subst (λ o. HasArity o e.args) op_is (shape_of s flat i e is))
+  where
+    from : (args : List ℕ) → HasArity op.Delay args → (d : ℕ) × (r : ℕ) × (args ≡ d ∷ r ∷ [])
+    from (d ∷ r ∷ []) shape = (d, r, refl)
+    from _ shape = absurd shape

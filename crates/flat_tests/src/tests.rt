@@ -1,4 +1,4 @@
-// Each call with ample memory, on a small system or on the sample of `trigger_starts`.
+// Each call with ample memory, on a small system or on the systems of `sample_systems`.
 
 mod of_event_why;
 mod of_flat_slice;

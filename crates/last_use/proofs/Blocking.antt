@@ -14,7 +14,7 @@ use Rattle.alias_rules.specs.Fine.{IsFine, with_tried}
 use Rattle.alias_rules.specs.Uses.{IsUpdate, AreUpdates}
 use Rattle.alias_rules.proofs.Listed.{below}
 use Rattle.flat_core.proofs.Rising.{same_rising, in_filter, in_push}
-use Rattle.alias_analysis.specs.inner.Beginning.{NoneIsNil}
+use Rattle.alias_nears.specs.inner.Beginning.{NoneIsNil}
 use Rattle.last_use.specs.inner.Blocks.{IsUpdateWithin, IsWithBlock}
 use Rattle.last_use.proofs.Fewer.{fewer_are_fine}
 

@@ -17,8 +17,8 @@ use Rattle.alias_rules.proofs.Below.{none_listed, listed_low, tried_is, listed_s
 use Rattle.alias_rules.proofs.Updates.{update_low}
 use Rattle.flat_core.proofs.Rising.{in_push, push_old, push_new, increasing_push}
 use Rattle.alias_rules.proofs.Tried.{tried_before}
-use Rattle.alias_analysis.specs.declared.reason.Reason.{Reason}
-use Rattle.alias_analysis.specs.inner.Beginning.{NoneIsNil}
+use Rattle.alias_nears.specs.declared.reason.Reason.{Reason}
+use Rattle.alias_nears.specs.inner.Beginning.{NoneIsNil}
 use Rattle.last_use.specs.inner.Blocks.{IsWithBlock}
 use Rattle.last_use.specs.inner.Choosing.{IsOutsideBelow, IsChosenBelow}
 use Rattle.last_use.specs.Reasons.{IsReason, updates_of, AreReasons}

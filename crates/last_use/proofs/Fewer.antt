@@ -8,8 +8,8 @@ use Rattle.flat_core.specs.WellFormed.{IsWellFormed}
 use Rattle.translation_order.proofs.Alike.{path_alike}
 use Rattle.alias_rules.specs.Conflict.{StandsBefore, needed, bypasses, takes}
 use Rattle.alias_rules.specs.Fine.{IsFine}
-use Rattle.alias_analysis.specs.inner.Beginning.{NoneIsNil}
-use Rattle.alias_analysis.proofs.Larger.{comes_more, shares_more, bypasses_wider}
+use Rattle.alias_nears.specs.inner.Beginning.{NoneIsNil}
+use Rattle.alias_nears.proofs.Larger.{comes_more, shares_more, bypasses_wider}
 
 module _ (s : System) (flat : IsFlat s) (formed : IsWellFormed s) (some : NoneIsNil s) (more : List ℕ) (set : List ℕ) (wider : (x : ℕ) → IsTrue (is_in set x) → IsTrue (is_in more x)) where
   stands_more : (a b : ℕ) → StandsBefore s set a b → StandsBefore s more a b

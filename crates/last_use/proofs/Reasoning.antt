@@ -6,9 +6,9 @@ use Rattle.alias_rules.specs.Conflict.{StandsBefore, IsKept, IsNotOverwritten, N
 use Rattle.alias_rules.specs.Fine.{IsFine}
 use Rattle.alias_rules.specs.Steps.{step_count}
 use Rattle.alias_rules.proofs.Firsts.{one_first}
-use Rattle.alias_analysis.specs.declared.reason.Reason.{Reason}
-use Rattle.alias_analysis.specs.declared.reason.Reason.TheVariants.{Kept, NotOverwritten, Cycle}
-use Rattle.alias_analysis.specs.inner.Answer.{IsFirstConflict}
+use Rattle.alias_nears.specs.declared.reason.Reason.{Reason}
+use Rattle.alias_nears.specs.declared.reason.Reason.TheVariants.{Kept, NotOverwritten, Cycle}
+use Rattle.alias_nears.specs.inner.Answer.{IsFirstConflict}
 use Rattle.last_use.specs.inner.Choosing.{IsRefusal}
 use Rattle.last_use.specs.inner.Cycles.{IsCycleOrNone}
 use Rattle.last_use.specs.Reasons.{IsReason}

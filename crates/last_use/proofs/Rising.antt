@@ -6,8 +6,8 @@ use Rattle.std.proofs.lemmas.List.{get_or_read}
 use Rattle.translation_order.specs.Graph.{Path, edge, step, IsAcyclic}
 use Rattle.translation_order.specs.Order.{Before}
 use Rattle.translation_order.proofs.Alike.{path_alike, walk_alike}
-use Rattle.alias_analysis.specs.declared.reason.Reason.{Reason}
-use Rattle.alias_analysis.specs.declared.reason.Reason.TheVariants.{Kept, NotOverwritten, Cycle}
+use Rattle.alias_nears.specs.declared.reason.Reason.{Reason}
+use Rattle.alias_nears.specs.declared.reason.Reason.TheVariants.{Kept, NotOverwritten, Cycle}
 use Rattle.last_use.specs.inner.Cycles.{IsCycleOrNone}
 
 module _ (E : ℕ → ℕ → Type 0) (rank : ℕ → ℕ) (rises : (a b : ℕ) → E a b → rank a < rank b) where

@@ -5,8 +5,8 @@ use Rattle.flat_core.specs.System.{System}
 use Rattle.alias_rules.specs.Conflict.{IsFirstKept, IsFirstNotOverwritten, IsReasonCycle}
 use Rattle.alias_rules.specs.Fine.{with_tried}
 use Rattle.alias_rules.specs.Outside.{AreOutside}
-use Rattle.alias_analysis.specs.declared.reason.Reason.{Reason}
-use Rattle.alias_analysis.specs.declared.reason.Reason.TheVariants as reason
+use Rattle.alias_nears.specs.declared.reason.Reason.{Reason}
+use Rattle.alias_nears.specs.declared.reason.Reason.TheVariants as reason
 
 -- The reason why the updates of a set cannot all happen in place: the first update that is kept, or else the first that is not
 -- overwritten, or else the cycle that is answered for the pairs of the set.

@@ -7,7 +7,7 @@ ghost use Rattle.std.specs.Prelude.{◌≡◌, ◌↔◌, ◌+◌, ◌<◌, ◌�
 ghost use Rattle.std.specs.List.Sorted.{IsStrictlyIncreasing};
 ghost use Rattle.flat_core.specs.declared.equation.Op.TheVariants as op;
 ghost use Rattle.alias_rules.specs.Uses.{AreUpdates};
-ghost use Rattle.alias_analysis.specs.inner.Beginning.{IsNilVariable, NoneIsNil};
+ghost use Rattle.alias_nears.specs.inner.Beginning.{IsNilVariable, NoneIsNil};
 ghost use Rattle.flat_core.specs.WellFormed.{IsWellFormed};
 ghost use Rattle.last_use.specs.inner.Choosing.{HasNears};
 ghost use Rattle.last_use.specs.inner.Blocks.{IsBlock, IsFineBlock, IsWithBlock, IsUpdateWithin};

@@ -7,7 +7,7 @@ ghost use Rattle.alias_rules.specs.Conflict.{StandsBefore};
 ghost use Rattle.alias_rules.specs.Fine.{IsFine, IsFinePlan, IsTakenPlan};
 ghost use Rattle.alias_rules.specs.Steps.{IsLeastOrderBy};
 ghost use Rattle.alias_rules.specs.Uses.{IsUpdate, AreUpdates};
-ghost use Rattle.alias_analysis.specs.inner.Beginning.{NoneIsNil};
+ghost use Rattle.alias_nears.specs.inner.Beginning.{NoneIsNil};
 ghost use Rattle.last_use.specs.inner.Choosing.{HasNears, IsChosen, IsTriedFrom};
 ghost use Rattle.last_use.specs.Reasons.{AreReasons};
 

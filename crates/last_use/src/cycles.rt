@@ -6,12 +6,12 @@ ghost use Rattle.translation_order.specs.Order.{Before, AreOfSteps};
 ghost use Rattle.alias_rules.specs.Conflict.{StandsBefore};
 ghost use Rattle.alias_rules.specs.Steps.{step_count};
 ghost use Rattle.alias_rules.specs.Uses.{AreUpdates};
-ghost use Rattle.alias_analysis.specs.inner.Nears.{AreNears};
+ghost use Rattle.alias_nears.specs.inner.Nears.{AreNears};
 ghost use Rattle.last_use.specs.inner.Cycles.{IsCycleOrNone};
 
 use alias_analysis::graph::Graph;
-use alias_analysis::nears::Nears;
-use alias_analysis::reason::Reason;
+use alias_nears::near::Nears;
+use alias_nears::reason::Reason;
 use flat_core::flat::Flat;
 use flat_core::lists::EqSet;
 use std::alloc::Global;

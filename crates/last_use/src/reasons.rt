@@ -3,7 +3,7 @@
 ghost use Rattle.std.specs.Prelude.{◌≡◌, ◌∷◌, [], ◌++◌, length, slice_get, is_ok, if◌then◌else◌};
 ghost use Rattle.std.specs.Option.{option_copied};
 
-use alias_analysis::reason::Reason;
+use alias_nears::reason::Reason;
 use std::alloc::Global;
 use std::marker::Model;
 use tsl_value::ids::EqId;
@@ -17,7 +17,7 @@ pub struct Reasons {
 
 impl Model for Reasons {
     ghost use Rattle.std.specs.Prelude.{List, ℕ};
-    ghost use Rattle.alias_analysis.specs.declared.reason.Reason as declared;
+    ghost use Rattle.alias_nears.specs.declared.reason.Reason as declared;
 
     ghost Value = { List (ℕ × declared.Reason) };
 

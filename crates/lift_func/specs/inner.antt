@@ -1,6 +1,2 @@
 pub mod OneLevel
-pub mod Textless
-pub mod Answered
-pub mod Cells
-pub mod Evaluable
 pub mod Placed

@@ -127,6 +127,7 @@ impl Body {
     }
 
     /// What stands at the root.
+    #[inline(always)]
     pub fn node(&self) -> &Node
         ensures { tree_of result.now ≡ self.now }
     {

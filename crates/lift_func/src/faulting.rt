@@ -13,7 +13,8 @@ fn unary_can_fault(o: Unary) -> bool
     matches!(o, Unary::Neg | Unary::Size | Unary::Front | Unary::GetSome)
 }
 
-pub(crate) fn is_arithmetic(o: Binary) -> bool
+/// Whether it is an operation of arithmetic.
+pub fn is_arithmetic(o: Binary) -> bool
     ensures { result ≡ is_arithmetic o }
 {
     matches!(

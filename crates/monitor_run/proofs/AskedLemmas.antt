@@ -7,14 +7,14 @@ use Rattle.tsl_value.specs.View.{View, Plain}
 use Rattle.tsl_value.specs.declared.scalar.Scalar.{Scalar}
 use Rattle.tsl_value.specs.declared.scalar.Scalar.TheVariants as scalar
 use Rattle.lift_func.specs.Apply.{apply, contained, of_two}
-use Rattle.lift_func.specs.inner.Cells.{Cells, FitsKey, HoldsLive, IsLive, has_key, held, view_at}
-use Rattle.lift_func.specs.inner.Evaluable.{CanRead, IsEvaluable, IsHeld, IsTypedAt}
+use Rattle.body_eval.specs.inner.Cells.{Cells, FitsKey, HoldsLive, IsLive, has_key, held, view_at}
+use Rattle.body_eval.specs.inner.Evaluable.{CanRead, IsEvaluable, IsHeld, IsTypedAt}
 use Rattle.lift_func.specs.BodyTree.{BodyTree, Two}
 use Rattle.tsl_value.specs.declared.operation.Binary.TheVariants as binary
-use Rattle.lift_func.specs.declared.register.Register.{Register}
-use Rattle.lift_func.specs.declared.register.Register.TheVariants as register
-use Rattle.lift_func.proofs.CellReads.{contained_is}
-use Rattle.lift_func.proofs.Evaluation.{reads}
+use Rattle.body_eval.specs.declared.register.Register.{Register}
+use Rattle.body_eval.specs.declared.register.Register.TheVariants as register
+use Rattle.body_eval.proofs.CellReads.{contained_is}
+use Rattle.body_eval.proofs.Evaluation.{reads}
 use Rattle.monitor_run.specs.inner.Here.{IsNamed}
 use Rattle.monitor_run.specs.inner.Registers.{register_at, value_at}
 

@@ -20,8 +20,8 @@ use Rattle.tsl_value.specs.declared.scalar.Scalar.{Scalar}
 use Rattle.tsl_value.specs.declared.scalar.Scalar.TheVariants as scalar
 use Rattle.tsl_value.specs.View.{View, Plain}
 use Rattle.delay_timers.specs.inner.Pending.{Times}
-use Rattle.lift_func.specs.declared.register.Register.{Register}
-use Rattle.lift_func.specs.declared.register.Register.TheVariants as register
+use Rattle.body_eval.specs.declared.register.Register.{Register}
+use Rattle.body_eval.specs.declared.register.Register.TheVariants as register
 use Rattle.flat_core.specs.Line.{Line, event_in, inputs_of}
 use Rattle.flat_core.specs.Pending.{option_is}
 use Rattle.monitor_run.specs.inner.Given.{AreAt, AreThere, IsThere}

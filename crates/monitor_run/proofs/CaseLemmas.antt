@@ -11,14 +11,14 @@ use Rattle.std.proofs.lemmas.Option.{same_Some}
 use Rattle.tsl_value.specs.declared.operation.Update.{Update}
 use Rattle.tsl_value.specs.declared.scalar.ValueType.{ValueType}
 use Rattle.tsl_value.specs.View.{View}
-use Rattle.lift_func.specs.declared.register.Register.{Register}
-use Rattle.lift_func.specs.declared.register.Register.TheVariants as register
-use Rattle.lift_func.specs.inner.Cells.{Cells, HoldsLive, IsLive, held}
-use Rattle.lift_func.specs.declared.eval.EvalFault.{EvalFault}
-use Rattle.lift_func.specs.declared.eval.EvalFault.TheVariants as eval_fault
+use Rattle.body_eval.specs.declared.register.Register.{Register}
+use Rattle.body_eval.specs.declared.register.Register.TheVariants as register
+use Rattle.body_eval.specs.inner.Cells.{Cells, HoldsLive, IsLive, held}
+use Rattle.body_eval.specs.declared.eval.EvalFault.{EvalFault}
+use Rattle.body_eval.specs.declared.eval.EvalFault.TheVariants as eval_fault
 use Rattle.lift_func.specs.Apply.{Answer}
 use Rattle.lift_func.specs.Update.{update_answer}
-use Rattle.lift_func.specs.inner.Evaluable.{IsEvaluable, IsHeldValue}
+use Rattle.body_eval.specs.inner.Evaluable.{IsEvaluable, IsHeldValue}
 use Rattle.tsl_value.specs.declared.scalar.Scalar.TheVariants as scalar
 use Rattle.lift_func.specs.BodyTree.{BodyTree}
 use Rattle.aggregate_store.specs.inner.Stored.{Stored}

@@ -6,12 +6,12 @@ use Rattle.std.specs.Option.{option_and_then}
 use Rattle.std.specs.FinMap as finite_map
 use Rattle.tsl_value.specs.declared.scalar.ValueType.{ValueType}
 use Rattle.tsl_value.specs.View.{View, Plain, is_of}
-use Rattle.lift_func.specs.inner.Cells as cells
-use Rattle.lift_func.specs.inner.Cells.{Cells, IsLive, HoldsLive, view_at}
+use Rattle.body_eval.specs.inner.Cells as cells
+use Rattle.body_eval.specs.inner.Cells.{Cells, IsLive, HoldsLive, view_at}
 use Rattle.tsl_value.specs.declared.scalar.Scalar.TheVariants as scalar
 use Rattle.lift_func.specs.Typing.{fits}
-use Rattle.lift_func.specs.declared.register.Register.{Register}
-use Rattle.lift_func.specs.declared.register.Register.TheVariants as register
+use Rattle.body_eval.specs.declared.register.Register.{Register}
+use Rattle.body_eval.specs.declared.register.Register.TheVariants as register
 use Rattle.aggregate_store.proofs.Live.{has_view, still_live, still_view}
 use Rattle.flat_core.specs.System.{System}
 use Rattle.register_machine.specs.Machine.{Held, Bare, Cell, Slot, slot_of, view_of, with}

@@ -15,9 +15,9 @@ use Rattle.tsl_value.specs.declared.scalar.ValueType.{ValueType}
 use Rattle.tsl_value.specs.inner.Laws.{IsInBounds}
 use Rattle.tsl_value.proofs.Aggregates.{elements_of}
 use Rattle.tsl_value.proofs.Lists.{cons_cases, contains_at, contains_map, later, map_contains, none_in_nil}
-use Rattle.lift_func.specs.declared.register.Register.{Register}
-use Rattle.lift_func.specs.declared.register.Register.TheVariants as register
-use Rattle.lift_func.specs.inner.Cells.{view_at}
+use Rattle.body_eval.specs.declared.register.Register.{Register}
+use Rattle.body_eval.specs.declared.register.Register.TheVariants as register
+use Rattle.body_eval.specs.inner.Cells.{view_at}
 use Rattle.aggregate_store.specs.declared.content.Content.{Content}
 use Rattle.aggregate_store.specs.Content.{AllIn, AreInOrder, IsInRange, content_of, content_size}
 use Rattle.aggregate_store.proofs.Contents.{contents}

@@ -33,23 +33,12 @@ use Rattle.register_machine.specs.Copied.{args_of, copied, copied_at, size_at, t
 use Rattle.monitor_run.proofs.DueTimes.{due_at, due_of, due_time}
 use Rattle.monitor_run.specs.inner.Given.{AreEventLines, IsEventLine}
 use Rattle.monitor_run.proofs.OpenLemmas.{line_in, line_on}
-use Rattle.flat_core.specs.inner.Arity.{HasArity}
 use Rattle.monitor_run.specs.inner.Next.{Comes, NothingBefore}
-use Rattle.flat_core.proofs.Shapes.{running_args, shape_of}
+use Rattle.flat_core.proofs.Shapes.{delay_args, running_args}
 use Rattle.flat_core.proofs.Answered.{delay_op}
 
 pub plan_ranked : (s : System) (order : List ℕ) → IsPlanOrder s order → IsRanked s (place order)
 plan_ranked s order plan = order_ranked s (MustPrecede s) (λ a b must. must) order plan
-
--- a delay has two arguments
-pub delay_args : (s : System) → IsFlat s → (i : ℕ) (e : Equation) → equation s i ≡ Some e → e.op ≡ op.Delay → (d : ℕ) × (r : ℕ) × (e.args ≡ d ∷ r ∷ [])
-delay_args s whole i e is op_is = from e.args (subst (λ o. HasArity o e.args) op_is (shape_of s whole i e is))
-  where
-    from : (args : List ℕ) → HasArity op.Delay args → (d : ℕ) × (r : ℕ) × (args ≡ d ∷ r ∷ [])
-    from [] shape = absurd shape
-    from (d ∷ []) shape = absurd shape
-    from (d ∷ r ∷ []) shape = (d, r, refl)
-    from (d ∷ r ∷ x ∷ args) shape = absurd shape
 
 -- ---- numbers of the ledger
 pub copied_still : (s : System) (set : List ℕ) (z : Streams) (u t : ℕ) → has_event (z u t) ≡ false → copied s set z u (suc t) ≡ copied s set z u t

@@ -4,7 +4,7 @@ use Rattle.std.proofs.lemmas.Bool.{false≢true}
 use Rattle.std.specs.Prelude.{if◌then◌else◌, is_some}
 use Rattle.std.specs.Option.{option_or}
 use Rattle.tsl_value.specs.declared.scalar.ValueType.{ValueType}
-use Rattle.lift_func.specs.declared.register.Register.{Register}
+use Rattle.body_eval.specs.declared.register.Register.{Register}
 use Rattle.aggregate_store.specs.inner.Stored.{Stored}
 use Rattle.flat_core.specs.declared.equation.Op.{Op}
 use Rattle.flat_core.specs.declared.equation.Op.TheVariants as op

@@ -7,10 +7,10 @@ use Rattle.std.specs.List.{All, AllByRecursion}
 use Rattle.tsl_value.specs.declared.scalar.Scalar.TheVariants as scalar
 use Rattle.tsl_value.specs.declared.scalar.ValueType.{ValueType}
 use Rattle.tsl_value.specs.View.{View, Plain, is_of}
-use Rattle.lift_func.specs.declared.register.Register.{Register}
-use Rattle.lift_func.specs.declared.register.Register.TheVariants as register
+use Rattle.body_eval.specs.declared.register.Register.{Register}
+use Rattle.body_eval.specs.declared.register.Register.TheVariants as register
 use Rattle.lift_func.specs.Apply.{Answer}
-use Rattle.lift_func.specs.inner.Cells.{Cells, HoldsLive}
+use Rattle.body_eval.specs.inner.Cells.{Cells, HoldsLive}
 use Rattle.lift_func.specs.Typing.{Optional, FitsAnswer}
 use Rattle.aggregate_store.specs.inner.Stored.{Stored}
 use Rattle.flat_core.specs.declared.equation.Equation.{Equation}

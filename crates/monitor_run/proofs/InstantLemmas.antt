@@ -10,8 +10,8 @@ use Rattle.tsl_value.specs.declared.scalar.Scalar.{Scalar}
 use Rattle.tsl_value.specs.declared.scalar.Scalar.TheVariants as scalar
 use Rattle.tsl_value.specs.declared.scalar.ValueType.{ValueType}
 use Rattle.lift_func.specs.declared.fault.FaultKind.{FaultKind}
-use Rattle.lift_func.specs.declared.register.Register.TheVariants as register
-use Rattle.lift_func.specs.inner.Cells.{Cells, HoldsLive, held}
+use Rattle.body_eval.specs.declared.register.Register.TheVariants as register
+use Rattle.body_eval.specs.inner.Cells.{Cells, HoldsLive, held}
 use Rattle.lift_func.specs.Typing.{Optional, fits}
 use Rattle.aggregate_store.specs.inner.Stored.{Stored, is_listed}
 use Rattle.flat_core.specs.declared.equation.Equation.{Equation}

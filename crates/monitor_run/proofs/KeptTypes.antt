@@ -7,11 +7,11 @@ use Rattle.std.specs.List.{AllByRecursion}
 use Rattle.std.specs.FinMap as finite_map
 use Rattle.tsl_value.specs.View.{View, is_of}
 use Rattle.tsl_value.specs.declared.scalar.ValueType.{ValueType}
-use Rattle.lift_func.specs.declared.eval.EvalFault.TheVariants as eval_fault
-use Rattle.lift_func.specs.declared.register.Register.{Register}
-use Rattle.lift_func.specs.declared.register.Register.TheVariants as register
+use Rattle.body_eval.specs.declared.eval.EvalFault.TheVariants as eval_fault
+use Rattle.body_eval.specs.declared.register.Register.{Register}
+use Rattle.body_eval.specs.declared.register.Register.TheVariants as register
 use Rattle.tsl_value.specs.Aggregate.{has_elements}
-use Rattle.lift_func.specs.inner.Cells.{Cells}
+use Rattle.body_eval.specs.inner.Cells.{Cells}
 use Rattle.aggregate_store.specs.inner.Stored.{Stored}
 use Rattle.aggregate_store.proofs.Live.{is_live, has_view}
 use Rattle.flat_core.specs.declared.equation.Equation.{Equation}

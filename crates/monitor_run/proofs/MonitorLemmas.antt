@@ -23,7 +23,7 @@ use Rattle.register_machine.specs.Tidy.{IsTidy}
 use Rattle.register_machine.proofs.LaterRuns.{later_leave}
 use Rattle.register_machine.proofs.ShortRuns.{instants_keep}
 use Rattle.register_machine.proofs.TidyRuns.{instants_tidy}
-use Rattle.lift_func.specs.declared.register.Register.TheVariants as register
+use Rattle.body_eval.specs.declared.register.Register.TheVariants as register
 use Rattle.std.specs.Ordering.{nat_cmp}
 use Rattle.flat_core.specs.inner.BoundLaws.{LeavesEarlier}
 use Rattle.monitor_run.specs.inner.Here.{is_marked}

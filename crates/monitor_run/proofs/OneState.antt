@@ -9,7 +9,7 @@ use Rattle.tsl_value.specs.declared.scalar.Scalar.{Scalar}
 use Rattle.tsl_value.specs.declared.scalar.Scalar.TheVariants as scalar
 use Rattle.tsl_value.specs.View.{View, Plain}
 use Rattle.aggregate_store.specs.Content.{content_of}
-use Rattle.lift_func.specs.inner.Cells.{view_at}
+use Rattle.body_eval.specs.inner.Cells.{view_at}
 use Rattle.flat_core.specs.Case.{Streams}
 use Rattle.flat_core.specs.Kept.{keeps_of, timers_of}
 use Rattle.flat_core.specs.Line.{Line, inputs_of}

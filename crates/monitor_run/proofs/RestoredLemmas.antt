@@ -19,9 +19,9 @@ use Rattle.tsl_value.specs.inner.Laws.{IsInBounds}
 use Rattle.tsl_value.proofs.Aggregates.{elements_of}
 use Rattle.tsl_value.proofs.Lists.{all_by_place, cons_cases, contains_at, member_cases, none_in_nil}
 use Rattle.delay_timers.specs.inner.Pending.{Times}
-use Rattle.lift_func.specs.declared.register.Register.{Register}
-use Rattle.lift_func.specs.declared.register.Register.TheVariants as register
-use Rattle.lift_func.specs.inner.Cells.{Cells, IsLive, view_at}
+use Rattle.body_eval.specs.declared.register.Register.{Register}
+use Rattle.body_eval.specs.declared.register.Register.TheVariants as register
+use Rattle.body_eval.specs.inner.Cells.{Cells, IsLive, view_at}
 use Rattle.aggregate_store.specs.declared.content.Content.{Content}
 use Rattle.aggregate_store.specs.declared.content.Content.TheVariants as content
 use Rattle.aggregate_store.specs.Content.{AllIn, AreInOrder, content_of, content_size, is_content_of, is_of_aggregate, view_in}

@@ -11,7 +11,7 @@ use Rattle.tsl_value.specs.declared.scalar.Scalar.{Scalar}
 use Rattle.tsl_value.specs.declared.scalar.Scalar.TheVariants as scalar
 use Rattle.tsl_value.specs.View.{View, Plain}
 use Rattle.tsl_value.proofs.Lists.{cons_cases, later, none_in_nil}
-use Rattle.lift_func.specs.inner.Cells.{view_at}
+use Rattle.body_eval.specs.inner.Cells.{view_at}
 use Rattle.aggregate_store.specs.Content.{content_of, view_in}
 use Rattle.aggregate_store.proofs.Contents.{contents}
 use Rattle.flat_core.specs.Kept.{keeps_of, timers_of}

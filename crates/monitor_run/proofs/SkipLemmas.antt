@@ -5,8 +5,8 @@ use Rattle.std.specs.Prelude.{◌≢◌, if◌then◌else◌, is_some, slice_get
 use Rattle.std.specs.Option.{option_and_then, option_or}
 use Rattle.std.specs.List.{AllByRecursion, list_any}
 use Rattle.tsl_value.specs.declared.scalar.ValueType.{ValueType}
-use Rattle.lift_func.specs.declared.register.Register.TheVariants as register
-use Rattle.lift_func.specs.inner.Cells.{held}
+use Rattle.body_eval.specs.declared.register.Register.TheVariants as register
+use Rattle.body_eval.specs.inner.Cells.{held}
 use Rattle.flat_core.specs.declared.equation.Equation.{Equation}
 use Rattle.flat_core.specs.declared.equation.Op.{Op}
 use Rattle.flat_core.specs.declared.equation.Op.TheVariants as op

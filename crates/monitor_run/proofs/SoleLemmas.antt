@@ -6,9 +6,9 @@ use Rattle.std.specs.FinMap as finite_map
 use Rattle.std.specs.Cmp.{nat_cmp_total, unsigned_tied}
 use Rattle.std.specs.Ordering.{eq_by_cmp, nat_cmp}
 use Rattle.tsl_value.specs.declared.scalar.ValueType.{ValueType}
-use Rattle.lift_func.specs.declared.register.Register.{Register}
-use Rattle.lift_func.specs.declared.register.Register.TheVariants as register
-use Rattle.lift_func.specs.inner.Cells.{Cells, HoldsLive, IsLive}
+use Rattle.body_eval.specs.declared.register.Register.{Register}
+use Rattle.body_eval.specs.declared.register.Register.TheVariants as register
+use Rattle.body_eval.specs.inner.Cells.{Cells, HoldsLive, IsLive}
 use Rattle.aggregate_store.specs.inner.Stored.{is_listed}
 use Rattle.flat_core.specs.Complete.{IsFlat}
 use Rattle.flat_core.specs.Members.{is_in}

@@ -22,7 +22,7 @@ use Rattle.flat_core.specs.System.{System, equation, runs}
 use Rattle.flat_core.specs.Text.{event_line, text_at}
 use Rattle.flat_core.specs.inner.TypedLines.{AreTypedLines}
 use Rattle.flat_core.proofs.SmallerBound.{solves_less}
-use Rattle.flat_core.proofs.Shapes.{one_equation}
+use Rattle.flat_core.proofs.Shapes.{delay_args, one_equation}
 use Rattle.flat_core.proofs.Answered.{delay_op}
 use Rattle.flat_core.specs.Kept.{is_timer}
 use Rattle.register_code.specs.inner.Plan.{IsPlanOrder}
@@ -45,7 +45,7 @@ use Rattle.monitor_run.specs.inner.State.{State, IsReady, kept_state, plan_of}
 use Rattle.flat_core.specs.Updates.{is_running_update}
 use Rattle.monitor_run.proofs.DueTimes.{due_at, due_of, due_time}
 use Rattle.monitor_run.proofs.OpenLemmas.{still_open}
-use Rattle.monitor_run.proofs.GapLemmas.{comes, delay_args, instants_gap, quiet, sound_gap}
+use Rattle.monitor_run.proofs.GapLemmas.{comes, instants_gap, quiet, sound_gap}
 
 pub both_none : (a b : Option View) → option_or a b ≡ None → (a ≡ None) × (b ≡ None)
 both_none None b h = (refl, h)

@@ -3,8 +3,8 @@ use Rattle.std.proofs.Common.{◌≡◌, ℕ, List, [], ◌∷◌, map, Some, su
 use Rattle.std.specs.Prelude.{IsTrue}
 use Rattle.std.specs.List.{All, AllByRecursion}
 use Rattle.tsl_value.specs.declared.scalar.ValueType.{ValueType}
-use Rattle.lift_func.specs.declared.register.Register.{Register}
-use Rattle.lift_func.specs.inner.Cells.{Cells, HoldsLive}
+use Rattle.body_eval.specs.declared.register.Register.{Register}
+use Rattle.body_eval.specs.inner.Cells.{Cells, HoldsLive}
 use Rattle.flat_core.specs.declared.equation.Equation.{Equation}
 use Rattle.flat_core.specs.Complete.{IsFlat}
 use Rattle.flat_core.specs.System.{System, runs, equation}

@@ -13,15 +13,14 @@ use Rattle.tsl_value.specs.declared.scalar.ValueType.{ValueType}
 use Rattle.tsl_value.specs.declared.scalar.ValueType.TheVariants as value_type
 use Rattle.tsl_value.specs.View.{View, Plain, Keyed, Mapped, Listed, is_of}
 use Rattle.tsl_value.proofs.Aggregates.{elements_of}
-use Rattle.lift_func.specs.inner.Cells.{Cells, FitsKey, HoldsLive, IsLive, IsQueue, held, view_at}
-use Rattle.lift_func.specs.declared.eval.EvalFault.{EvalFault}
+use Rattle.body_eval.specs.inner.Cells.{Cells, FitsKey, HoldsLive, IsLive, IsQueue, held, view_at}
+use Rattle.body_eval.specs.declared.eval.EvalFault.{EvalFault}
 use Rattle.lift_func.specs.declared.fault.FaultKind.TheVariants.{EmptyQueue}
-use Rattle.lift_func.specs.declared.register.Register.{Register}
-use Rattle.lift_func.specs.declared.register.Register.TheVariants as register
+use Rattle.body_eval.specs.declared.register.Register.{Register}
+use Rattle.body_eval.specs.declared.register.Register.TheVariants as register
 use Rattle.lift_func.specs.Update.{updated, UpdateTypes, set_add, set_remove, map_add, map_remove, queue_add, queue_take, beside, present, update_answer}
-use Rattle.lift_func.proofs.CellReads.{key_of}
 use Rattle.lift_func.proofs.Updates.{updates_aggregate, beside_scalars}
-use Rattle.lift_func.proofs.TypedUpdates.{AreViewsOf}
+use Rattle.lift_func.proofs.TypedUpdates.{AreViewsOf, key_of}
 use Rattle.aggregate_store.specs.inner.Stored.{Stored, FitsValue, HasFront, with_added, with_last, without_front, without_key}
 use Rattle.aggregate_store.proofs.Typed.{fits_map, fits_value}
 use Rattle.flat_core.specs.declared.equation.Equation.{Equation}

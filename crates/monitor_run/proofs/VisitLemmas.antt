@@ -12,9 +12,9 @@ use Rattle.alias_rules.proofs.Ordered.{needed_order}
 use Rattle.alias_rules.proofs.Ranks.{not_in_take, one_place}
 use Rattle.lift_func.specs.declared.fault.FaultKind.{FaultKind}
 use Rattle.std.specs.FinMap as finite_map
-use Rattle.lift_func.specs.inner.Cells.{Cells, HoldsLive, held}
-use Rattle.lift_func.specs.declared.register.Register.{Register}
-use Rattle.lift_func.specs.declared.register.Register.TheVariants as register
+use Rattle.body_eval.specs.inner.Cells.{Cells, HoldsLive, held}
+use Rattle.body_eval.specs.declared.register.Register.{Register}
+use Rattle.body_eval.specs.declared.register.Register.TheVariants as register
 use Rattle.flat_core.specs.declared.equation.Equation.{Equation}
 use Rattle.flat_core.specs.declared.equation.Op.{Op}
 use Rattle.flat_core.specs.declared.equation.Op.TheVariants as op

@@ -10,9 +10,9 @@ ghost use Rattle.monitor_run.specs.inner.Visits.{AreFilled, AreMarked, AreWithin
 
 use crate::machine::put;
 use agenda::marks::Agenda;
+use body_eval::register::Register;
 use delay_timers::timers::Timers;
 use flat_core::line::TraceLine;
-use lift_func::register::Register;
 use step_uses::rows::Rows;
 use tsl_value::ids::EqId;
 use tsl_value::memory::NoMemory;

@@ -4,7 +4,7 @@ ghost use Rattle.std.specs.Prelude.{◌≡◌, ◌≢◌, ◌<◌, ◌||◌, ℕ
 ghost use Rattle.std.specs.FinMap as map;
 ghost use Rattle.std.specs.Option.{option_map};
 ghost use Rattle.tsl_value.specs.declared.scalar.ValueType.{ValueType};
-ghost use Rattle.lift_func.specs.inner.Cells.{Cells, HoldsLive, held};
+ghost use Rattle.body_eval.specs.inner.Cells.{Cells, HoldsLive, held};
 ghost use Rattle.flat_core.specs.Events.{refused};
 ghost use Rattle.flat_core.specs.Complete.{IsFlat};
 ghost use Rattle.flat_core.specs.Members.{is_in};
@@ -18,11 +18,11 @@ ghost use Rattle.monitor_run.specs.inner.Registers.{AreHeld, register_at};
 
 use crate::case::argument;
 use crate::run::{Root, least_root};
+use body_eval::register::Register;
 use delay_timers::timers::Timers;
 use flat_core::equation::{Equation, Op};
 use flat_core::flat::Flat;
 use lift_func::fault::FaultKind;
-use lift_func::register::Register;
 use tsl_value::ids::EqId;
 use tsl_value::scalar::Scalar;
 use tsl_value::time::Time;

@@ -3,7 +3,7 @@
 
 ghost use Rattle.std.specs.Prelude.{◌≡◌, ◌<◌, ◌++◌, ℕ, [], is_some, length, slice_index_or, slice_set, IfOk, IsTrue, OnOk, OnErr};
 ghost use Rattle.std.specs.List.{flat_map};
-ghost use Rattle.lift_func.specs.inner.Cells.{HoldsLive};
+ghost use Rattle.body_eval.specs.inner.Cells.{HoldsLive};
 ghost use Rattle.flat_core.specs.Text.{event_line};
 ghost use Rattle.monitor_run.specs.inner.Begun.{IsBegunOf};
 ghost use Rattle.monitor_run.specs.inner.Machine.{CanPrint, front_of, texts_with};
@@ -12,9 +12,9 @@ ghost use Rattle.monitor_run.specs.inner.Visits.{AreUnprinted};
 
 use agenda::marks::Agenda;
 use aggregate_store::store::Store;
+use body_eval::register::Register;
 use event_writer::event::write_event;
 use flat_core::equation::Output;
-use lift_func::register::Register;
 use tsl_value::bytes::Bytes;
 use tsl_value::memory::NoMemory;
 use tsl_value::time::Time;

@@ -10,9 +10,9 @@ ghost use Rattle.monitor_run.specs.inner.Shown.{held_at, held_by};
 
 use crate::case::{argument, register};
 use crate::machine::put;
+use body_eval::register::Register;
 use flat_core::equation::{Equation, Op};
 use flat_core::lists::Args;
-use lift_func::register::Register;
 use tsl_value::ids::EqId;
 use tsl_value::memory::NoMemory;
 use tsl_value::scalar::Scalar;

@@ -4,8 +4,8 @@ ghost use Rattle.std.specs.Prelude.{◌≡◌, ◌<◌, [], false, length, repli
 ghost use Rattle.std.specs.FinMap as map;
 
 use aggregate_store::store::Store;
+use body_eval::register::Register;
 use delay_timers::timers::Timers;
-use lift_func::register::Register;
 use std::alloc::Global;
 use tsl_value::bytes::Bytes;
 use tsl_value::ids::Handle;

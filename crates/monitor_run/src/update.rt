@@ -2,8 +2,8 @@
 
 ghost use Rattle.std.specs.Prelude.{◌≡◌, ◌<◌, All, Some, Ok, [], ◌∷◌, suc, IfOk, OnErr, length, map};
 ghost use Rattle.std.specs.Option.{option_copied};
-ghost use Rattle.lift_func.specs.inner.Cells.{FitsKey, IsLive, IsQueue, held, view_at};
-ghost use Rattle.lift_func.specs.inner.Cells as cells;
+ghost use Rattle.body_eval.specs.inner.Cells.{FitsKey, IsLive, IsQueue, held, view_at};
+ghost use Rattle.body_eval.specs.inner.Cells as cells;
 ghost use Rattle.lift_func.specs.Update.{beside, update_answer};
 ghost use Rattle.aggregate_store.specs.inner.Stored.{FitsValue, HasFront, with_added, with_last, without_front, without_key};
 ghost use Rattle.monitor_run.specs.inner.Here.{HasAnswer, HasUpdated, HoldsNoScalar, IsBare, IsRemoval, TakesUpdate, made_of};
@@ -12,11 +12,11 @@ ghost use Rattle.monitor_run.specs.inner.Registers.{register_at, value_at};
 
 use crate::case::argument;
 use aggregate_store::store::Store;
+use body_eval::eval::EvalFault;
+use body_eval::reader::Reader;
+use body_eval::register::Register;
 use flat_core::lists::Args;
-use lift_func::eval::EvalFault;
 use lift_func::fault::FaultKind;
-use lift_func::reader::Reader;
-use lift_func::register::Register;
 use tsl_value::ids::{EqId, Handle};
 use tsl_value::memory::NoMemory;
 use tsl_value::operation::Update;

@@ -9,9 +9,9 @@ use Rattle.std.specs.List.{AllByRecursion}
 use Rattle.tsl_value.specs.Aggregate.{has_elements}
 use Rattle.tsl_value.specs.View.{View, Plain, Keyed, Mapped}
 use Rattle.tsl_value.specs.declared.scalar.Scalar.TheVariants as scalar
-use Rattle.lift_func.specs.declared.register.Register.TheVariants as register
-use Rattle.lift_func.specs.inner.Cells.{Cells, HoldsLive, arguments, held}
-use Rattle.lift_func.specs.inner.Evaluable.{IsEvaluable}
+use Rattle.body_eval.specs.declared.register.Register.TheVariants as register
+use Rattle.body_eval.specs.inner.Cells.{Cells, HoldsLive, arguments, held}
+use Rattle.body_eval.specs.inner.Evaluable.{IsEvaluable}
 use Rattle.lift_func.specs.BodyTree.{BodyTree}
 use Rattle.lift_func.specs.Typing.{AllFit}
 use Rattle.event_writer.specs.Text.{IsPrintable}

@@ -15,8 +15,8 @@ use crate::update::{
     picked,
 };
 use crate::value::{Value, copied};
+use body_eval::eval::EvalFault;
 use flat_core::equation::{Equation, Op};
-use lift_func::eval::EvalFault;
 use std::alloc::Global;
 use tsl_value::memory::NoMemory;
 use tsl_value::operation::Update;

@@ -3,7 +3,7 @@
 ghost use Rattle.std.specs.Prelude.{◌≡◌, ◌≤◌, None, length, slice_index_or, IfOk, map};
 ghost use Rattle.std.specs.FinMap as finite_map;
 ghost use Rattle.std.specs.Option.{option_copied, option_map};
-ghost use Rattle.lift_func.specs.inner.Answered.{IsValue};
+ghost use Rattle.body_eval.specs.inner.Answered.{IsValue};
 ghost use Rattle.lift_func.specs.Apply.{apply};
 ghost use Rattle.aggregate_store.specs.inner.CellView as cell_view;
 ghost use Rattle.plain_solver.specs.inner.Lent.{IsEvaluableAt, aggregate_in, cells_of, numbers_from, register_of, registers_from};
@@ -11,10 +11,10 @@ ghost use Rattle.plain_solver.specs.inner.Lent.{IsEvaluableAt, aggregate_in, cel
 use crate::value::{Held, Value};
 use aggregate_store::cell::Cell;
 use aggregate_store::print::print_cell;
+use body_eval::eval::{EvalFault, eval};
+use body_eval::reader::Reader;
+use body_eval::register::Register;
 use lift_func::body::Body;
-use lift_func::eval::{EvalFault, eval};
-use lift_func::reader::Reader;
-use lift_func::register::Register;
 use std::alloc::Global;
 use tsl_value::bytes::Bytes;
 use tsl_value::ids::Handle;

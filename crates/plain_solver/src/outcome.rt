@@ -30,11 +30,11 @@ use crate::update::{
     picked,
 };
 use crate::value::{Held, Value, copied};
+use body_eval::eval::EvalFault;
 use flat_core::equation::{Equation, Op};
 use flat_core::line::TraceLine;
 use flat_core::lists::Args;
 use lift_func::body::Body;
-use lift_func::eval::EvalFault;
 use lift_func::fault::FaultKind;
 use std::alloc::Global;
 use tsl_value::ids::EqId;

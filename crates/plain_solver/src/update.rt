@@ -11,7 +11,7 @@ ghost use Rattle.plain_solver.specs.inner.ValueView.{IsAnswer, IsUpdate};
 
 use crate::value::{Held, Value};
 use aggregate_store::cell::Cell;
-use lift_func::eval::EvalFault;
+use body_eval::eval::EvalFault;
 use lift_func::fault::FaultKind;
 use std::alloc::Global;
 use tsl_value::memory::NoMemory;

@@ -12,9 +12,9 @@ use Rattle.alias_rules.specs.Conflict.{StandsBefore}
 use Rattle.alias_rules.specs.Fine.{IsFine, IsFinePlan}
 use Rattle.alias_rules.specs.Steps.{IsOrderBy}
 use Rattle.alias_rules.specs.Uses.{AreUpdates, IsUpdate}
-use Rattle.alias_analysis.specs.declared.reason.Reason.{Reason}
-use Rattle.alias_analysis.specs.declared.reason.Reason.TheVariants.{Kept, NotOverwritten, Cycle}
-use Rattle.alias_analysis.specs.inner.Answer.{IsFirstConflict}
+use Rattle.alias_nears.specs.declared.reason.Reason.{Reason}
+use Rattle.alias_nears.specs.declared.reason.Reason.TheVariants.{Kept, NotOverwritten, Cycle}
+use Rattle.alias_nears.specs.inner.Answer.{IsFirstConflict}
 use Rattle.plan_check.proofs.Ordering.{acyclic}
 
 module _ (s : System) (set : List ℕ) where

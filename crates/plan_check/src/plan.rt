@@ -8,11 +8,11 @@ ghost use Rattle.alias_rules.specs.Conflict.{StandsBefore};
 ghost use Rattle.alias_rules.specs.Fine.{IsFinePlan};
 ghost use Rattle.alias_rules.specs.Steps.{IsOrderBy};
 ghost use Rattle.alias_rules.specs.Uses.{AreUpdates};
-ghost use Rattle.alias_analysis.specs.inner.Nears.{AreNears};
+ghost use Rattle.alias_nears.specs.inner.Nears.{AreNears};
 
 use crate::places::{is_whole, places_of};
 use alias_analysis::graph::Graph;
-use alias_analysis::nears::Nears;
+use alias_nears::near::Nears;
 use flat_core::flat::Flat;
 use flat_core::lists::EqSet;
 use register_code::plan::Plan;

@@ -1,6 +1,2 @@
 pub mod NameLemmas
-pub mod CountLemmas
-pub mod SourceLemmas
-pub mod TypedLemmas
-pub mod CycleLemmas
-pub mod LawLemmas
+pub mod WholeLemmas

@@ -8,10 +8,10 @@ ghost use Rattle.program_text.specs.Text.{label_text};
 ghost use Rattle.syntax_tree.specs.Tree.{Item as ItemTree};
 ghost use Rattle.translation_order.specs.Cycle.{IsCycleOfWalk};
 ghost use Rattle.recursion_check.specs.Feeds.{Feeds};
-ghost use Rattle.spec_reader.specs.Source.{HasSystem, IsRefused};
+ghost use Rattle.source_rules.specs.Source.{HasSystem, IsRefused};
 
-use crate::fault::SpecFault;
 use flat_core::flat::Flat;
+use source_rules::fault::SpecFault;
 use std::alloc::Global;
 use translation_order::steps::Steps;
 use tsl_value::bytes::Bytes;

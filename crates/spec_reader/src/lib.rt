@@ -2,6 +2,4 @@
 #![tactic(auto)]
 
 mod cycle;
-pub mod fault;
-pub mod laws;
 pub mod read;

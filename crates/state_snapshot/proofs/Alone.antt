@@ -5,7 +5,7 @@ use Rattle.std.proofs.lemmas.List.{drop_at, take_at}
 use Rattle.std.proofs.lemmas.Nat.{from_be_bytes-to_be_bytes_8}
 use Rattle.register_code.specs.Text.{code_text}
 use Rattle.state_snapshot.specs.Laws.{NoneBeginsOther}
-use Rattle.state_snapshot.specs.Spelling.{events_bytes, kept_bytes, mark, number, options_bytes, reader_bytes, text}
+use Rattle.run_state.specs.Spelling.{events_bytes, kept_bytes, mark, number, options_bytes, reader_bytes, text}
 
 -- as many bytes at the front
 pub same_front : (xs ys us vs : List ℕ) → length xs ≡ length us → xs ++ ys ≡ us ++ vs → (xs ≡ us) × (ys ≡ vs)

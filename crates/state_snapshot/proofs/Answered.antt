@@ -10,10 +10,10 @@ use Rattle.register_code.specs.Code.{Code}
 use Rattle.register_code.specs.Text.{code_text}
 use Rattle.state_snapshot.specs.declared.fault.StateFault.{StateFault}
 use Rattle.state_snapshot.specs.declared.fault.StateFault.TheVariants as fault
-use Rattle.state_snapshot.specs.declared.run_state.RunState.{RunState}
-use Rattle.state_snapshot.specs.Fits.{FitsRun}
+use Rattle.run_state.specs.declared.state.RunState.{RunState}
+use Rattle.run_state.specs.Fits.{FitsRun}
 use Rattle.state_snapshot.specs.Laws.{NoneBegins, SpellOneState}
-use Rattle.state_snapshot.specs.Spelling.{IsOfOther, mark, number, spelling, text}
+use Rattle.run_state.specs.Spelling.{IsOfOther, mark, number, spelling, text}
 use Rattle.state_snapshot.specs.inner.Reading.{◌>>=◌, BeginsWrong, Gives, fields_at, fits_rest, if_fits, marked_at, state_at, text_at, with_seen}
 use Rattle.state_snapshot.proofs.Alone.{same_front}
 use Rattle.state_snapshot.proofs.Formats.{IsBytes, IsBytes-drop, bind_some, passed_first, passed_test, some_is, text_format}

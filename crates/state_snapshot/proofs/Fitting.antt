@@ -11,8 +11,7 @@ use Rattle.std.proofs.lemmas.Map.Keys.{sorted_from_strictly_increasing}
 use Rattle.std.proofs.lemmas.Map.Views.{length-le_from_below}
 use Rattle.std.proofs.lemmas.Option.{slice_get_within}
 use Rattle.std.proofs.lemmas.Slice.Zip.{AllZip-long}
-use Rattle.command_words.specs.declared.limits.TheConstants.{MOST_INSTANTS}
-use Rattle.tsl_value.specs.declared.limits.TheConstants.{MOST_TRACE_BYTES}
+use Rattle.tsl_value.specs.declared.limits.TheConstants.{MOST_INSTANTS, MOST_TRACE_BYTES}
 use Rattle.tsl_value.specs.declared.scalar.Scalar.{Scalar}
 use Rattle.tsl_value.specs.declared.scalar.ValueType.{ValueType}
 use Rattle.tsl_value.specs.declared.scalar.ValueType.TheVariants as value_type
@@ -34,8 +33,8 @@ use Rattle.monitor_run.specs.declared.state.SavedRegister.{SavedRegister}
 use Rattle.monitor_run.specs.declared.state.SavedRegister.TheVariants as saved
 use Rattle.monitor_run.specs.inner.Fits.{AreInstants, AreOpen, FitsMonitor, FitsRegister, FitsType, named_by}
 use Rattle.monitor_run.specs.inner.Given.{IsInputOf}
-use Rattle.state_snapshot.specs.declared.run_state.RunState.{RunState}
-use Rattle.state_snapshot.specs.Fits.{AreLimits, FitsRun}
+use Rattle.run_state.specs.declared.state.RunState.{RunState}
+use Rattle.run_state.specs.Fits.{AreLimits, FitsRun}
 use Rattle.state_snapshot.specs.inner.Reading.{are_instants, are_limits, fields_at, fits_reader, fits_rest, is_from, is_open_at, is_rest, kept_types, type_of_kept, with_seen}
 use Rattle.state_snapshot.proofs.Contents.{FitsContent, events_each, events_rise}
 use Rattle.state_snapshot.proofs.RegisterTypes.{AreSaved, FitsBare, all_numbered, all_typed}

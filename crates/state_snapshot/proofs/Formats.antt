@@ -7,7 +7,7 @@ use Rattle.std.proofs.lemmas.Bool.{cases_lt, ltb-false, ltb-true, le-ltb, lt-ltb
 use Rattle.std.proofs.lemmas.List.{take_at, drop_at, take-append-drop, length-append, length-take, get_or-drop, get_or-take, get_or_past}
 use Rattle.std.proofs.lemmas.List.Concat.{flat_map-cons}
 use Rattle.std.proofs.lemmas.Nat.{be_bytes_8, from_be_bytes-to_be_bytes_8}
-use Rattle.state_snapshot.specs.Spelling.{flag, number, optional, text}
+use Rattle.run_state.specs.Spelling.{flag, number, optional, text}
 use Rattle.state_snapshot.specs.inner.Reading.{◌>>=◌, Read, flag_at, if_time, items_at, number_at, optional_at, text_at}
 
 abbrev pub IsBytes : List ℕ → Type 0

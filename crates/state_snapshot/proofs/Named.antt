@@ -22,7 +22,7 @@ use Rattle.monitor_run.specs.declared.state.SavedRegister.{SavedRegister}
 use Rattle.monitor_run.specs.declared.state.SavedRegister.TheVariants as saved
 use Rattle.monitor_run.specs.inner.Fits.{FitsCell, FitsRegister, FitsType, named_by, type_at}
 use Rattle.monitor_run.specs.inner.Saved.{firsts}
-use Rattle.state_snapshot.specs.Spelling.{content_bytes}
+use Rattle.run_state.specs.Spelling.{content_bytes}
 use Rattle.state_snapshot.specs.inner.Reading.{◌>>=◌, cells_at, content_at, kept_types, named, named_before, type_of_kept}
 use Rattle.state_snapshot.proofs.Formats.{IsBytes, Takes, Takes-then, bind_some, some_is}
 use Rattle.state_snapshot.proofs.Contents.{FitsContent, content_format}

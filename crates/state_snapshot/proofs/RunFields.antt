@@ -24,8 +24,8 @@ use Rattle.monitor_run.specs.declared.state.MonitorState.{MonitorState}
 use Rattle.monitor_run.specs.declared.state.OpenEvent.{OpenEvent}
 use Rattle.monitor_run.specs.declared.state.SavedRegister.{SavedRegister}
 use Rattle.monitor_run.specs.inner.Given.{IsInputOf}
-use Rattle.state_snapshot.specs.declared.run_state.RunState.{RunState}
-use Rattle.state_snapshot.specs.Spelling.{content_bytes, event_bytes, events_bytes, flag, kept_bytes, number, optional, options_bytes, reader_bytes, register_bytes, scalar_bytes, text}
+use Rattle.run_state.specs.declared.state.RunState.{RunState}
+use Rattle.run_state.specs.Spelling.{content_bytes, event_bytes, events_bytes, flag, kept_bytes, number, optional, options_bytes, reader_bytes, register_bytes, scalar_bytes, text}
 use Rattle.state_snapshot.specs.inner.Reading.{◌>>=◌, cells_at, event_at, events_at, fields_at, flag_at, if_events, input_type, is_event_below, items_at, kept_types, monitor_at, number_at, optional_at, reader_at, registers_at, rise_by, scalar_at, scalar_in, text_at}
 use Rattle.state_snapshot.proofs.Formats.{IsBytes, IsFormat, Takes, Takes-then, bind_some, flag_format, items_again, items_take, number_format, optional_format, passed_first, passed_test, some_is, text_format}
 use Rattle.state_snapshot.proofs.Scalars.{scalar_format}

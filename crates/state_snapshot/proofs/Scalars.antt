@@ -15,7 +15,7 @@ use Rattle.tsl_value.specs.declared.scalar.ScalarType.{ScalarType}
 use Rattle.tsl_value.specs.declared.scalar.ScalarType.TheVariants as scalar_type
 use Rattle.tsl_value.specs.View.{is_of_scalar}
 use Rattle.tsl_value.specs.inner.Laws.{IsInBounds}
-use Rattle.state_snapshot.specs.Spelling.{entry_bytes, number, scalar_bytes}
+use Rattle.run_state.specs.Spelling.{entry_bytes, number, scalar_bytes}
 use Rattle.state_snapshot.specs.inner.Reading.{◌>>=◌, as_scalar, entry_at, flag_at, if_text, number_at, scalar_at, text_at}
 use Rattle.state_snapshot.proofs.Formats.{IsBytes, IsFormat, Takes, Takes-then, bind_some, flag_format, number_format, passed_test, some_is, text_format}
 

@@ -2,9 +2,9 @@
 use Rattle.std.specs.Prelude.{◌≡◌, ◌≢◌, ◌++◌, ◌<◌, ◌^◌, List, [], ℕ, length}
 use Rattle.register_code.specs.Code.{Code, IsCode}
 use Rattle.register_code.specs.Text.{code_text}
-use Rattle.state_snapshot.specs.declared.run_state.RunState.{RunState}
-use Rattle.state_snapshot.specs.Fits.{FitsRun}
-use Rattle.state_snapshot.specs.Spelling.{spelling}
+use Rattle.run_state.specs.declared.state.RunState.{RunState}
+use Rattle.run_state.specs.Fits.{FitsRun}
+use Rattle.run_state.specs.Spelling.{spelling}
 
 -- a state that fits a code
 pub record IsStateOf (c : Code) (st : RunState) : Type 0 where

@@ -1,4 +1,2 @@
-pub mod Spelling
-pub mod Fits
 pub mod Laws
 pub mod inner

@@ -5,12 +5,11 @@ ghost use Rattle.trace_reader.specs.Form.{split_once};
 ghost use Rattle.state_snapshot.specs.inner.Reading.{are_instants, are_limits, fits_reader, fits_rest, is_from, is_open_at};
 ghost use Rattle.std.specs.List.{list_all};
 
-use crate::run_state::RunState;
-use command_words::limits::MOST_INSTANTS;
 use monitor_run::state::{MonitorState, OpenEvents, PendingTimes};
+use run_state::state::RunState;
 use trace_reader::limits::MOST_LINE_BYTES;
 use trace_reader::state::ReaderState;
-use tsl_value::limits::MOST_TRACE_BYTES;
+use tsl_value::limits::{MOST_INSTANTS, MOST_TRACE_BYTES};
 use tsl_value::time::Time;
 
 /// The limits are those that a user can ask for.

@@ -9,5 +9,4 @@ pub mod laws;
 mod monitor;
 pub mod read;
 mod registers;
-pub mod run_state;
 pub mod write;

@@ -2,20 +2,20 @@
 
 ghost use Rattle.std.specs.Prelude.{◌≡◌, ◌<◌, ◌^◌, Err, IfOk, length, map};
 ghost use Rattle.std.specs.List.Sorted.{IsStrictlyIncreasing};
-ghost use Rattle.state_snapshot.specs.Fits.{FitsRun};
-ghost use Rattle.state_snapshot.specs.Spelling.{IsOfOther, spelling};
+ghost use Rattle.run_state.specs.Fits.{FitsRun};
+ghost use Rattle.run_state.specs.Spelling.{IsOfOther, spelling};
 ghost use Rattle.state_snapshot.specs.inner.Reading.{AnswersProgram, Gives, fields_at, if_fits, marked_at, reader_at, state_at};
 
 use crate::check::fits_rest;
 use crate::fault::StateFault;
 use crate::fields::{Read, read_flag, read_number, read_optional, read_text};
 use crate::monitor::read_monitor;
-use crate::run_state::RunState;
 use crate::write::MARK;
 use flat_core::lists::EqSet;
 use monitor_run::state::OpenEvent;
 use register_code::code::Code;
 use register_code::print::print_code;
+use run_state::state::RunState;
 use std::alloc::Global;
 use trace_reader::state::ReaderState;
 use tsl_value::bytes::Bytes;

@@ -3,14 +3,14 @@
 ghost use Rattle.std.specs.Prelude.{◌≡◌, ◌++◌, length, take, OnErr, OnOk};
 ghost use Rattle.std.specs.List.{flat_map};
 ghost use Rattle.register_code.specs.Text.{code_text};
-ghost use Rattle.state_snapshot.specs.Spelling.{content_bytes, entry_bytes, event_bytes, events_bytes, flag, kept_bytes, mark, number};
-ghost use Rattle.state_snapshot.specs.Spelling.{optional, options_bytes, reader_bytes, register_bytes, scalar_bytes, spelling, text};
+ghost use Rattle.run_state.specs.Spelling.{content_bytes, entry_bytes, event_bytes, events_bytes, flag, kept_bytes, mark, number};
+ghost use Rattle.run_state.specs.Spelling.{optional, options_bytes, reader_bytes, register_bytes, scalar_bytes, spelling, text};
 
-use crate::run_state::RunState;
 use aggregate_store::content::Content;
 use monitor_run::state::{MonitorState, OpenEvent, SavedRegister};
 use register_code::code::Code;
 use register_code::print::print_code;
+use run_state::state::RunState;
 use trace_reader::state::ReaderState;
 use tsl_value::bytes::Bytes;
 use tsl_value::memory::NoMemory;

@@ -5,8 +5,8 @@ use Rattle.flat_core.specs.Events.{Inputs}
 use Rattle.flat_core.specs.Solution.{Solves}
 use Rattle.flat_core.specs.System.{System}
 use Rattle.flat_simplify.proofs.Fit.{simplified_fit}
-use Rattle.spec_compiler.specs.Compiled.{CompilesSomething}
-use Rattle.spec_compiler.proofs.Kept.{one_is_compiled, refused_compiles_none}
+use Rattle.compiled_meaning.specs.Compiled.{CompilesSomething}
+use Rattle.compiled_meaning.proofs.Kept.{one_is_compiled, refused_compiles_none}
 use Rattle.trace_bench.specs.inner.Laws.{RefusedBenchesNone}
 
 pub one_system : (source : List ℕ) (s u : System) → CompilesSomething source s → CompilesSomething source u → s ≡ u

@@ -5,7 +5,7 @@ use Rattle.command_words.specs.declared.command.Workload.TheVariants as kind
 use Rattle.alias_rules.specs.Fine.{IsTakenPlan}
 use Rattle.flat_core.specs.System.{System}
 use Rattle.sample_trace.specs.Source.{copy_source, seen_source}
-use Rattle.spec_compiler.specs.Compiled.{CompilesSomething}
+use Rattle.compiled_meaning.specs.Compiled.{CompilesSomething}
 use Rattle.trace_bench.specs.declared.outcome.Outcome.{Outcome}
 use Rattle.trace_bench.specs.Outcome.{IsOutcomeOf}
 

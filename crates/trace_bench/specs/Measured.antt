@@ -12,8 +12,7 @@ use Rattle.trace_monitor.specs.declared.ending.RunEnding.TheVariants as ending
 use Rattle.trace_monitor.specs.declared.options.Options.{Options}
 use Rattle.trace_monitor.specs.Due.{IsDue, SolvesClosed, bound_in, lines_in}
 use Rattle.trace_monitor.specs.Next.{EndsBy}
-use Rattle.tsl_value.specs.declared.limits.TheConstants.{MOST_TRACE_BYTES}
-use Rattle.command_words.specs.declared.limits.TheConstants.{MOST_INSTANTS}
+use Rattle.tsl_value.specs.declared.limits.TheConstants.{MOST_INSTANTS, MOST_TRACE_BYTES}
 
 -- no time is closed after the trace's end, and the limits are the largest
 abbrev pub options : Options

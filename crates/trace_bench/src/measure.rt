@@ -7,13 +7,12 @@ use crate::outcome::Outcome;
 use crate::run::run_over;
 use crate::tally::Tally;
 use crate::updates::copied_together;
-use command_words::limits::MOST_INSTANTS;
 use register_code::code::Code;
 use std::alloc::Global;
 use trace_monitor::ending::RunEnding;
 use trace_monitor::monitor::TraceMonitor;
 use trace_monitor::options::Options;
-use tsl_value::limits::MOST_TRACE_BYTES;
+use tsl_value::limits::{MOST_INSTANTS, MOST_TRACE_BYTES};
 use tsl_value::memory::NoMemory;
 
 /// How far the run goes: to the end of the trace, within the largest limits.

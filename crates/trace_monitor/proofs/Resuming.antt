@@ -8,8 +8,7 @@ use Rattle.std.proofs.lemmas.List.Kept.{AllPairs-from_increasing}
 use Rattle.flat_core.proofs.Members.{contains_head}
 use Rattle.tsl_value.specs.View.{View, Plain}
 use Rattle.tsl_value.specs.declared.scalar.Scalar.{Scalar}
-use Rattle.tsl_value.specs.declared.limits.TheConstants.{MOST_TRACE_BYTES}
-use Rattle.command_words.specs.declared.limits.TheConstants.{MOST_INSTANTS}
+use Rattle.tsl_value.specs.declared.limits.TheConstants.{MOST_INSTANTS, MOST_TRACE_BYTES}
 use Rattle.flat_core.specs.Case.{Streams}
 use Rattle.flat_core.specs.Complete.{IsFlat}
 use Rattle.flat_core.specs.Ending.{EndsAtBound}
@@ -48,8 +47,8 @@ use Rattle.trace_reader.specs.inner.Reader.{AwaitsMore}
 use Rattle.trace_reader.specs.inner.Reads.{Reads}
 use Rattle.trace_reader.specs.inner.Saved as reader_saved
 use Rattle.trace_reader.specs.inner.Saved.{FitsReader, IsReaderAfter}
-use Rattle.state_snapshot.specs.Fits.{AreTogether, FitsRun}
-use Rattle.state_snapshot.specs.declared.run_state.RunState.{RunState}
+use Rattle.run_state.specs.Fits.{AreTogether, FitsRun}
+use Rattle.run_state.specs.declared.state.RunState.{RunState}
 use Rattle.trace_monitor.specs.declared.halt.Halt.TheVariants as halt
 use Rattle.trace_monitor.specs.declared.ending.RunEnding.TheVariants as ending
 use Rattle.trace_monitor.specs.Counted.{HasCounted}

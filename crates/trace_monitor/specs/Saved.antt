@@ -4,9 +4,9 @@ use Rattle.register_code.specs.Code.{Code}
 use Rattle.register_machine.specs.Run.{Plan}
 use Rattle.trace_reader.specs.inner.Saved.{IsReaderAfter}
 use Rattle.monitor_run.specs.inner.Resumed.{IsStateAfter}
-use Rattle.state_snapshot.specs.Fits.{FitsRun}
-use Rattle.state_snapshot.specs.Spelling.{spelling}
-use Rattle.state_snapshot.specs.declared.run_state.RunState.{RunState}
+use Rattle.run_state.specs.Fits.{FitsRun}
+use Rattle.run_state.specs.Spelling.{spelling}
+use Rattle.run_state.specs.declared.state.RunState.{RunState}
 use Rattle.trace_monitor.specs.declared.options.Options.{Options}
 use Rattle.trace_monitor.specs.Due.{bound_in, lines_in}
 use Rattle.trace_monitor.specs.Ending.{GoesOn}

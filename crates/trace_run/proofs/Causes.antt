@@ -5,7 +5,7 @@ use Rattle.std.proofs.lemmas.Option.{slice_get_within}
 use Rattle.flat_core.specs.Line.{Line}
 use Rattle.flat_core.specs.System.{System}
 use Rattle.flat_meaning.proofs.OneText.{same_instants}
-use Rattle.spec_compiler.specs.Meant.{FaultTimeIsMeant, QuietIsMeant, LimitIsMeant}
+use Rattle.compiled_meaning.specs.Meant.{FaultTimeIsMeant, QuietIsMeant, LimitIsMeant}
 use Rattle.syntax_tree.specs.Tree as tree
 use Rattle.trace_monitor.specs.declared.ending.RunEnding.{RunEnding}
 use Rattle.trace_monitor.specs.declared.ending.RunEnding.TheVariants as run

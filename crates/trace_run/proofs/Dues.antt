@@ -20,7 +20,7 @@ use Rattle.trace_reader.proofs.LineLemmas.{reading_later, reading_closed}
 use Rattle.trace_monitor.specs.declared.options.Options.{Options}
 use Rattle.trace_monitor.specs.Due.{IsDue, SolvesClosed, lines_in, bound_in}
 use Rattle.trace_monitor.specs.Ending.{GoesOn}
-use Rattle.spec_compiler.specs.inner.Ready.{IsReady}
+use Rattle.compiled_meaning.specs.inner.Ready.{IsReady}
 use Rattle.trace_monitor.proofs.DueTexts.{due_alike, due_grows}
 use Rattle.trace_monitor.proofs.Readiness.{none_read, none_closed, none_due}
 

@@ -6,12 +6,12 @@ use Rattle.flat_core.specs.Case.{Streams}
 use Rattle.flat_core.specs.Ending.{EndsInFault}
 use Rattle.flat_core.specs.Line.{Line}
 use Rattle.flat_core.specs.System.{System}
-use Rattle.spec_compiler.specs.Compiled.{Compiles}
+use Rattle.compiled_meaning.specs.Compiled.{Compiles}
 use Rattle.spec_meaning.specs.Inputs.{inputs_alone}
-use Rattle.spec_compiler.specs.inner.Laws.{SaysWhatIsMeant}
-use Rattle.spec_compiler.specs.Meant.{FaultTimeIsMeant, IsFaultNamed, LimitIsMeant, QuietIsMeant}
-use Rattle.spec_compiler.proofs.Inputs.{inputs_are_declared}
-use Rattle.spec_compiler.proofs.Meaning.{compiled_says_what_is_meant}
+use Rattle.compiled_meaning.specs.inner.Laws.{SaysWhatIsMeant}
+use Rattle.compiled_meaning.specs.Meant.{FaultTimeIsMeant, IsFaultNamed, LimitIsMeant, QuietIsMeant}
+use Rattle.compiled_meaning.proofs.Inputs.{inputs_are_declared}
+use Rattle.compiled_meaning.proofs.Meaning.{compiled_says_what_is_meant}
 use Rattle.spec_meaning.specs.Due.{IsDueText}
 use Rattle.syntax_tree.specs.Tree as tree
 use Rattle.trace_monitor.specs.declared.ending.RunEnding.{RunEnding}

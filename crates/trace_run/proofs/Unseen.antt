@@ -20,7 +20,7 @@ use Rattle.register_machine.specs.Run.{Plan}
 use Rattle.register_machine.specs.Stands.{IsGiven}
 use Rattle.register_machine.proofs.LaterRuns.{runs_on}
 use Rattle.register_machine.proofs.Shown.{counts, exists, goes_on, leaves, shows}
-use Rattle.spec_compiler.specs.Compiled.{Compiles}
+use Rattle.compiled_meaning.specs.Compiled.{Compiles}
 use Rattle.syntax_tree.specs.Tree as tree
 use Rattle.trace_monitor.specs.declared.options.Options.{Options}
 use Rattle.trace_monitor.specs.Due.{bound_in, lines_in}

@@ -26,7 +26,7 @@ use Rattle.trace_monitor.specs.declared.ending.RunEnding.{RunEnding}
 use Rattle.trace_monitor.specs.Next.{EndsBy, IsNext, is_nothing}
 use Rattle.trace_monitor.specs.inner.State.{State}
 use Rattle.trace_run.specs.Effects.{Gives, IsTraceWork, MayRead, Watched, WatchEnds, Writes}
-use Rattle.spec_compiler.specs.inner.Ready.{IsReady}
+use Rattle.compiled_meaning.specs.inner.Ready.{IsReady}
 use Rattle.trace_run.proofs.Dues.{due_more}
 use Rattle.trace_reader.specs.declared.limits.TheConstants.{MOST_PIECE_BYTES}
 

@@ -16,10 +16,10 @@ use Rattle.flat_core.proofs.LaterLines.{leaves_earlier}
 use Rattle.flat_core.proofs.Members.{all_at}
 use Rattle.flat_core.proofs.SmallerBound.{instants_first, solves_less}
 use Rattle.flat_core.proofs.Uniqueness.{all_with}
-use Rattle.spec_compiler.specs.Compiled.{Compiles}
-use Rattle.spec_compiler.specs.inner.Laws.{SaysWhatIsMeant}
-use Rattle.spec_compiler.specs.Meant.{QuietIsMeant}
-use Rattle.spec_compiler.proofs.Meaning.{compiled_says_what_is_meant}
+use Rattle.compiled_meaning.specs.Compiled.{Compiles}
+use Rattle.compiled_meaning.specs.inner.Laws.{SaysWhatIsMeant}
+use Rattle.compiled_meaning.specs.Meant.{QuietIsMeant}
+use Rattle.compiled_meaning.proofs.Meaning.{compiled_says_what_is_meant}
 use Rattle.syntax_tree.specs.Tree as tree
 use Rattle.trace_monitor.specs.declared.options.Options.{Options}
 use Rattle.trace_monitor.specs.Due.{SolvesClosed, bound_in, lines_in, refused_in}

@@ -2,7 +2,7 @@
 
 ghost use Rattle.std.specs.Prelude.{◌≡◌, ◌<◌, ◌≤◌, false, length, IfOk, OnOk, IsErrOf};
 ghost use Rattle.alias_rules.specs.Fine.{IsTakenPlan};
-ghost use Rattle.spec_compiler.specs.inner.Ready.{IsReady};
+ghost use Rattle.compiled_meaning.specs.inner.Ready.{IsReady};
 ghost use Rattle.trace_reader.specs.declared.limits.TheConstants.{MOST_PIECE_BYTES};
 ghost use Rattle.tsl_world.specs.Standing.{is_open};
 ghost use Rattle.tsl_world.specs.Runs.{Grows};

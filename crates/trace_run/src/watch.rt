@@ -1,7 +1,7 @@
 // The loop over the trace.
 
 ghost use Rattle.std.specs.Prelude.{◌≡◌, ◌<◌, ◌≤◌, [], true, length, IfOk, OnOk, IsErrOf};
-ghost use Rattle.spec_compiler.specs.inner.Ready.{IsReady};
+ghost use Rattle.compiled_meaning.specs.inner.Ready.{IsReady};
 ghost use Rattle.trace_monitor.specs.inner.Kept.{Kept};
 ghost use Rattle.tsl_world.specs.Standing.{is_open};
 ghost use Rattle.tsl_world.specs.World.{RoseBy};

@@ -11,16 +11,16 @@ use Rattle.trigger_rules.specs.Formula.{Formula, Assignment, Of, Meets, always, 
 use Rattle.trigger_rules.specs.Question.{Starts, Stands, Fires}
 use Rattle.trigger_rules.specs.Table.{formula}
 use Rattle.tsl_value.proofs.Lists.{here, later, cons_cases, map_contains}
-use Rattle.trigger_diagram.specs.declared.arena.Branch.{Branch}
-use Rattle.trigger_diagram.specs.declared.join.Pair.{Pair}
-use Rattle.trigger_diagram.specs.declared.join.Split.{Split}
-use Rattle.trigger_diagram.specs.inner.DecisionTree.{DecisionTree, Leaf, Fork, Valuation, value, Agree, IsAfter, IsCanonical, with_value}
-use Rattle.trigger_diagram.specs.inner.Arena.{tree_at, AreCanonical, Grows, IsNode}
-use Rattle.trigger_diagram.specs.inner.Join.{AreNodes, IsSplit}
+use Rattle.decision_diagrams.specs.declared.arena.Branch.{Branch}
+use Rattle.decision_diagrams.specs.declared.join.Pair.{Pair}
+use Rattle.decision_diagrams.specs.declared.join.Split.{Split}
+use Rattle.decision_diagrams.specs.inner.DecisionTree.{DecisionTree, Leaf, Fork, Valuation, value, Agree, IsAfter, IsCanonical, with_value}
+use Rattle.decision_diagrams.specs.inner.Arena.{tree_at, AreCanonical, Grows, IsNode}
+use Rattle.decision_diagrams.specs.inner.Join.{AreNodes, IsSplit}
 use Rattle.trigger_diagram.specs.inner.Kept.{Kept, AreDiagramsOf, IsNodeIn, IsNodeOf}
 use Rattle.trigger_diagram.specs.inner.Truth.{variable_of, truth}
 use Rattle.trigger_diagram.specs.inner.Ways.{Occurs, OccursInOne, IsSide, Nests, none, one_more}
-use Rattle.trigger_diagram.proofs.DecisionTrees.{low_value, high_value, same_tree}
+use Rattle.decision_diagrams.proofs.DecisionTrees.{low_value, high_value, same_tree}
 use Rattle.trigger_diagram.proofs.Truths.{assignment_of, truth_is, valuation_is}
 
 -- ---- the numbers above one of them are fewer

@@ -15,8 +15,8 @@ use Rattle.trigger_starts.specs.inner.Rules.{AreClosed, rules_of}
 use Rattle.trigger_starts.specs.inner.Truth.{IsMet}
 use Rattle.trigger_starts.proofs.Orders.{order_from}
 use Rattle.trigger_starts.proofs.Systems.{fires_is, has_stands}
-use Rattle.trigger_diagram.specs.declared.arena.Branch.{Branch}
-use Rattle.trigger_diagram.specs.inner.Arena.{AreCanonical, Grows, IsNode}
+use Rattle.decision_diagrams.specs.declared.arena.Branch.{Branch}
+use Rattle.decision_diagrams.specs.inner.Arena.{AreCanonical, Grows, IsNode}
 use Rattle.trigger_diagram.specs.inner.Kept.{AreAlike, AreFiringIn, AreKept, HaveAtoms, IsNodeIn, IsNodeOf, Keeps, Kept}
 use Rattle.trigger_diagram.specs.inner.Made.{node_at, AreNodesOf, IsMade}
 use Rattle.trigger_diagram.specs.inner.Truth.{truth}

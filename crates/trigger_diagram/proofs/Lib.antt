@@ -1,8 +1,3 @@
-pub mod DecisionTrees
-pub mod Nodes
-pub mod Once
-pub mod Joining
-pub mod Finding
 pub mod Truths
 pub mod Making
 pub mod Questions

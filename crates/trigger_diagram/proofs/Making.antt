@@ -10,8 +10,8 @@ use Rattle.trigger_starts.specs.declared.rules.Rule.{Rule}
 use Rattle.trigger_starts.specs.inner.Rules.{used_by}
 use Rattle.trigger_starts.specs.inner.Truth.{IsMet, value_by}
 use Rattle.trigger_starts.proofs.Meaning.{value_met}
-use Rattle.trigger_diagram.specs.declared.arena.Branch.{Branch}
-use Rattle.trigger_diagram.specs.inner.Arena.{IsNode, Grows}
+use Rattle.decision_diagrams.specs.declared.arena.Branch.{Branch}
+use Rattle.decision_diagrams.specs.inner.Arena.{IsNode, Grows}
 use Rattle.trigger_diagram.specs.inner.Made.{node_at, value_at, AreNodesOf, IsMade, UsedMade}
 use Rattle.trigger_diagram.specs.inner.Truth.{truth, Tells}
 use Rattle.trigger_diagram.proofs.Truths.{node_on, truth_kept}

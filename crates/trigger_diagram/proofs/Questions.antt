@@ -3,14 +3,14 @@ use Rattle.std.proofs.Common.{◌≡◌, ℕ, ◌↔◌, Bool, List, Result, Ok,
 use Rattle.std.specs.Prelude.{IfOk, IsTrue}
 use mathlib.Core.Logic.Iff.{trans}
 use Rattle.trigger_starts.specs.declared.rules.Rule.{Rule}
-use Rattle.trigger_diagram.specs.declared.arena.Branch.{Branch}
-use Rattle.trigger_diagram.specs.declared.join.Pair.{Pair}
-use Rattle.trigger_diagram.specs.inner.DecisionTree.{Agree, Valuation, value}
-use Rattle.trigger_diagram.specs.inner.Arena.{tree_at, AreCanonical, IsNode}
-use Rattle.trigger_diagram.specs.inner.Join.{AreTogether, IsImplied}
+use Rattle.decision_diagrams.specs.declared.arena.Branch.{Branch}
+use Rattle.decision_diagrams.specs.declared.join.Pair.{Pair}
+use Rattle.decision_diagrams.specs.inner.DecisionTree.{Agree, Valuation, value}
+use Rattle.decision_diagrams.specs.inner.Arena.{tree_at, AreCanonical, IsNode}
+use Rattle.decision_diagrams.specs.inner.Join.{AreTogether, IsImplied}
 use Rattle.trigger_diagram.specs.inner.Kept.{AreAlike, AreMetIn, Follows, Kept}
 use Rattle.trigger_diagram.specs.inner.Truth.{truth, valuation_of}
-use Rattle.trigger_diagram.proofs.DecisionTrees.{same_tree}
+use Rattle.decision_diagrams.proofs.DecisionTrees.{same_tree}
 use Rattle.trigger_diagram.proofs.Truths.{assignment_of, truth_is, valuation_is}
 
 -- the value of a node in a valuation

@@ -9,16 +9,16 @@ use Rattle.trigger_rules.specs.Formula.{Assignment}
 use Rattle.trigger_starts.specs.declared.rules.Rule.{Rule}
 use Rattle.trigger_starts.specs.declared.rules.Rule.TheVariants as rule
 use Rattle.trigger_starts.specs.inner.Truth.{value_by}
-use Rattle.trigger_diagram.specs.declared.arena.Branch.{Branch}
-use Rattle.trigger_diagram.specs.declared.join.Connective.{Connective}
-use Rattle.trigger_diagram.specs.declared.join.Connective.TheVariants as connective
-use Rattle.trigger_diagram.specs.declared.join.Pair.{Pair}
-use Rattle.trigger_diagram.specs.inner.DecisionTree.{Valuation, value}
-use Rattle.trigger_diagram.specs.inner.Arena.{tree_at, IsNode, Grows}
-use Rattle.trigger_diagram.specs.inner.Join.{connected, AreNodes, IsJoin}
+use Rattle.decision_diagrams.specs.declared.arena.Branch.{Branch}
+use Rattle.decision_diagrams.specs.declared.join.Connective.{Connective}
+use Rattle.decision_diagrams.specs.declared.join.Connective.TheVariants as connective
+use Rattle.decision_diagrams.specs.declared.join.Pair.{Pair}
+use Rattle.decision_diagrams.specs.inner.DecisionTree.{Valuation, value}
+use Rattle.decision_diagrams.specs.inner.Arena.{tree_at, IsNode, Grows}
+use Rattle.decision_diagrams.specs.inner.Join.{connected, AreNodes, IsJoin}
 use Rattle.trigger_diagram.specs.inner.Made.{node_at, value_at, AreThere}
 use Rattle.trigger_diagram.specs.inner.Truth.{following, variable_of, atom_of, valuation_of, truth, Tells}
-use Rattle.trigger_diagram.proofs.Nodes.{no_is, yes_is}
+use Rattle.decision_diagrams.proofs.Nodes.{no_is, yes_is}
 
 -- ---- atoms by their variables
 variable_following : (a : Atom) → variable_of (following a) ≡ suc (variable_of a)

@@ -1,6 +1,3 @@
-pub mod DecisionTree
-pub mod Arena
-pub mod Join
 pub mod Truth
 pub mod Made
 pub mod Kept

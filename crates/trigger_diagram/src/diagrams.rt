@@ -8,10 +8,10 @@ ghost use Rattle.trigger_starts.specs.inner.AtomLists.{AreDifferent, atoms_at};
 ghost use Rattle.trigger_starts.specs.inner.Truth.{assignment_of};
 ghost use Rattle.trigger_diagram.specs.inner.Kept.{AreAlike, AreDiagramsOf, AreFiringIn, AreMetIn, Follows, HaveAtoms, IsNodeIn, IsNodeOf, Keeps};
 
-use crate::arena::Arena;
 use crate::formula::node_at;
-use crate::join::Pair;
 use crate::made::make_all;
+use decision_diagrams::arena::Arena;
+use decision_diagrams::join::Pair;
 use flat_core::flat::Flat;
 use std::alloc::Global;
 use std::marker::Model;

@@ -3,10 +3,11 @@
 ghost use Rattle.std.specs.Prelude.{◌≡◌, ℕ, ◌<◌, [], length, OnOk};
 ghost use Rattle.std.specs.List.{Contains};
 ghost use Rattle.trigger_starts.specs.inner.Rules.{AreClosed, AreReady};
-ghost use Rattle.trigger_diagram.specs.inner.Arena.{Grows};
+ghost use Rattle.decision_diagrams.specs.inner.Arena.{Grows};
 ghost use Rattle.trigger_diagram.specs.inner.Made.{AreNodesOf, IsMade, UsedMade};
 
-use crate::arena::Arena;
+use crate::formula::formula;
+use decision_diagrams::arena::Arena;
 use std::alloc::Global;
 use trigger_starts::rules::Rule;
 use tsl_value::ids::EqId;
@@ -36,7 +37,7 @@ fn make(
     if nodes[index].is_some() {
         return Ok(());
     }
-    let node = arena.formula(alloc, &rules[index], EqId::new(step), starts, nodes)?;
+    let node = formula(arena, alloc, &rules[index], EqId::new(step), starts, nodes)?;
     nodes[index] = Some(node);
     Ok(())
 }

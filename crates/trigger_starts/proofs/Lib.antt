@@ -8,5 +8,3 @@ pub mod Starting
 pub mod Orders
 pub mod Marking
 pub mod Systems
-pub mod SampleLemmas
-pub mod MergedLemmas

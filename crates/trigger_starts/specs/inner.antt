@@ -2,4 +2,3 @@ pub mod Rules
 pub mod AtomLists
 pub mod Truth
 pub mod Kept
-pub mod Sample

@@ -6,5 +6,4 @@ pub mod gather;
 pub mod listed;
 pub mod needed;
 pub mod rules;
-pub mod sample;
 pub mod starts;

@@ -7,3 +7,6 @@ pub const MOST_TEXT_BYTES: usize = 65_536;
 /// The most bytes of a trace: 2^40. Nobody can ask for more, and a trace of so many is far from what a run reaches. From the
 /// manual's limits.
 pub const MOST_TRACE_BYTES: u64 = 0x100_0000_0000;
+
+/// The most instants of a run. No run reaches so many. From the manual's limits.
+pub const MOST_INSTANTS: u64 = 1_000_000_000_000;

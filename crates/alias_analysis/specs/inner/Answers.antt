@@ -6,7 +6,7 @@ use Rattle.trigger_starts.specs.declared.rules.Rule.{Rule}
 use Rattle.trigger_formulas.specs.inner.Kept.{AreTriggersOf}
 use Rattle.alias_analysis.specs.declared.answers.Question.{Question}
 use Rattle.alias_analysis.specs.declared.answers.Question.TheVariants as question
-use Rattle.alias_analysis.specs.inner.Contents.{IsBeside}
+use Rattle.alias_nears.specs.inner.Contents.{IsBeside}
 
 -- that the answer to a question about update y and equation x is yes
 abbrev pub Holds : Question → System → ℕ → ℕ → Type 0

@@ -7,15 +7,15 @@ ghost use Rattle.trigger_formulas.specs.inner.Kept.{AreTriggersOf};
 
 use crate::tests::triggers;
 use alias_analysis::graph::Graph;
-use alias_analysis::reason::Reason;
+use alias_nears::reason::Reason;
 use alias_paths::uses::is_variable;
 use flat_core::flat::Flat;
 use flat_core::lists::EqSet;
+use sample_systems::systems::sample;
 use std::alloc::Global;
 use std::test::Fail;
 use translation_order::steps::Edges;
 use trigger_formulas::triggers::Triggers;
-use trigger_starts::sample::sample;
 use tsl_value::ids::EqId;
 
 /// Whether an equation runs and is an update.

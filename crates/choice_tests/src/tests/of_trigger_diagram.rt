@@ -4,10 +4,10 @@ ghost use Rattle.std.specs.Prelude.{◌≡◌, length, IfOk};
 
 use flat_core::flat::Flat;
 use recursion_check::check::run_order;
+use sample_systems::systems::merged;
 use std::alloc::Global;
 use std::test::Fail;
 use trigger_diagram::diagrams::Diagrams;
-use trigger_starts::sample::merged;
 use tsl_value::ids::EqId;
 
 /// The diagrams of a system.

@@ -3,10 +3,10 @@
 ghost use Rattle.std.specs.Prelude.{◌≡◌, length, IfOk};
 
 use recursion_check::check::run_order;
+use sample_systems::systems::sample;
 use std::alloc::Global;
 use std::test::Fail;
 use trigger_formulas::triggers::Triggers;
-use trigger_starts::sample::sample;
 use tsl_value::ids::EqId;
 
 /// The triggers of the sample.

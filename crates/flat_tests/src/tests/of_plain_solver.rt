@@ -4,8 +4,8 @@ use crate::tests::small_system::{are_sorted, are_typed, trace};
 use plain_solver::solve::{End, solve};
 use plain_solver::text::print_due;
 use recursion_check::check::run_order;
+use sample_systems::systems::sample;
 use std::test::Fail;
-use trigger_starts::sample::sample;
 
 // The set is printed where it has the number already.
 #[test]

@@ -5,8 +5,8 @@ use recursion_check::check::check_cycles;
 use register_code::code::generate;
 use register_code::copying::copying_plan;
 use register_code::print::print_code;
+use sample_systems::systems::sample;
 use std::test::Fail;
-use trigger_starts::sample::sample;
 use tsl_value::bytes::Bytes;
 use tsl_value::ids::EqId;
 

@@ -5,7 +5,7 @@ use Rattle.flat_core.specs.Members.{is_in}
 use Rattle.flat_core.specs.System.{System}
 use Rattle.alias_rules.specs.Fine.{IsFine}
 use Rattle.alias_rules.specs.Uses.{IsUpdate}
-use Rattle.alias_analysis.specs.inner.Nears.{AreNears}
+use Rattle.alias_nears.specs.inner.Nears.{AreNears}
 use Rattle.last_use.specs.declared.block.Block.{Block}
 use Rattle.last_use.specs.declared.trial.InPlace.{InPlace}
 

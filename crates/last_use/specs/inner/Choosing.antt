@@ -7,8 +7,8 @@ use Rattle.flat_core.specs.System.{System}
 use Rattle.alias_rules.specs.inner.Below.{IsListedBelow}
 use Rattle.alias_rules.specs.Fine.{IsFine, with_tried}
 use Rattle.alias_rules.specs.Outside.{IsOutside}
-use Rattle.alias_analysis.specs.declared.reason.Reason.{Reason}
-use Rattle.alias_analysis.specs.inner.Nears.{AreNears}
+use Rattle.alias_nears.specs.declared.reason.Reason.{Reason}
+use Rattle.alias_nears.specs.inner.Nears.{AreNears}
 use Rattle.last_use.specs.declared.choice.Chosen.{Chosen}
 use Rattle.last_use.specs.declared.choice.Tried.{Tried}
 use Rattle.last_use.specs.declared.trial.InPlace.{InPlace}

@@ -2,8 +2,8 @@
 use Rattle.std.specs.Prelude.{ℕ, Option, MatchOption}
 use Rattle.translation_order.specs.Cycle.{IsCycleOfWalk}
 use Rattle.translation_order.specs.Graph.{IsAcyclic}
-use Rattle.alias_analysis.specs.declared.reason.Reason.{Reason}
-use Rattle.alias_analysis.specs.declared.reason.Reason.TheVariants as reason
+use Rattle.alias_nears.specs.declared.reason.Reason.{Reason}
+use Rattle.alias_nears.specs.declared.reason.Reason.TheVariants as reason
 
 abbrev pub IsCycleReason : ℕ → (ℕ → ℕ → Type 0) → Reason → Type 0
 IsCycleReason steps E (reason.Cycle cycle) = IsCycleOfWalk steps E cycle

@@ -2,7 +2,7 @@
 use Rattle.std.specs.Prelude.{◌≡◌, ℕ, List}
 use Rattle.flat_core.specs.System.{System}
 use Rattle.alias_rules.specs.Fine.{IsFine}
-use Rattle.alias_analysis.specs.declared.reason.Reason.{Reason}
+use Rattle.alias_nears.specs.declared.reason.Reason.{Reason}
 use Rattle.last_use.specs.Reasons.{IsReason}
 
 -- a set has at most one reason

@@ -10,14 +10,14 @@ use Rattle.tsl_value.specs.declared.scalar.Scalar.TheVariants as scalar
 use Rattle.tsl_value.specs.declared.scalar.ValueType.{ValueType}
 use Rattle.tsl_value.specs.View.{View, is_of}
 use Rattle.lift_func.specs.BodyTree.{BodyTree, Argument}
-use Rattle.lift_func.specs.declared.eval.EvalFault.{EvalFault}
-use Rattle.lift_func.specs.declared.eval.EvalFault.TheVariants as eval_fault
-use Rattle.lift_func.specs.declared.register.Register.{Register}
-use Rattle.lift_func.specs.declared.register.Register.TheVariants as register
-use Rattle.lift_func.specs.inner.Cells.{Cells, IsLive, HoldsLive, held, view_at}
+use Rattle.body_eval.specs.declared.eval.EvalFault.{EvalFault}
+use Rattle.body_eval.specs.declared.eval.EvalFault.TheVariants as eval_fault
+use Rattle.body_eval.specs.declared.register.Register.{Register}
+use Rattle.body_eval.specs.declared.register.Register.TheVariants as register
+use Rattle.body_eval.specs.inner.Cells.{Cells, IsLive, HoldsLive, held, view_at}
 use Rattle.lift_func.specs.Update.{UpdateTypes}
 use Rattle.lift_func.specs.Apply.{Answer}
-use Rattle.lift_func.specs.inner.Evaluable.{IsHeldValue}
+use Rattle.body_eval.specs.inner.Evaluable.{IsHeldValue}
 use Rattle.aggregate_store.specs.inner.Stored.{Stored, counted}
 use Rattle.flat_core.specs.declared.equation.Equation.{Equation}
 use Rattle.flat_core.specs.declared.equation.Op.{Op}

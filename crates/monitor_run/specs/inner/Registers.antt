@@ -2,9 +2,9 @@
 use Rattle.std.specs.Prelude.{◌≡◌, ℕ, List, length, Option, Some, IsTrue, slice_index_or}
 use Rattle.tsl_value.specs.declared.scalar.ValueType.{ValueType}
 use Rattle.tsl_value.specs.View.{View}
-use Rattle.lift_func.specs.declared.register.Register.{Register}
-use Rattle.lift_func.specs.declared.register.Register.TheVariants as register
-use Rattle.lift_func.specs.inner.Cells.{Cells, held, HoldsLive}
+use Rattle.body_eval.specs.declared.register.Register.{Register}
+use Rattle.body_eval.specs.declared.register.Register.TheVariants as register
+use Rattle.body_eval.specs.inner.Cells.{Cells, held, HoldsLive}
 use Rattle.lift_func.specs.Typing.{Optional, fits}
 use Rattle.flat_core.specs.declared.equation.Equation.{Equation}
 use Rattle.flat_core.specs.System.{System, equation, runs}

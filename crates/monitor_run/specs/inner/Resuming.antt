@@ -3,9 +3,9 @@ use Rattle.std.specs.Prelude.{◌≡◌, ◌==◌, ℕ, if◌then◌else◌, Lis
 use Rattle.std.specs.List.{Contains}
 use Rattle.std.specs.FinMap as finite_map
 use Rattle.delay_timers.specs.inner.Pending.{Times}
-use Rattle.lift_func.specs.declared.register.Register.{Register}
-use Rattle.lift_func.specs.declared.register.Register.TheVariants as register
-use Rattle.lift_func.specs.inner.Cells.{Cells, IsLive}
+use Rattle.body_eval.specs.declared.register.Register.{Register}
+use Rattle.body_eval.specs.declared.register.Register.TheVariants as register
+use Rattle.body_eval.specs.inner.Cells.{Cells, IsLive}
 use Rattle.aggregate_store.specs.declared.content.Content.{Content}
 use Rattle.aggregate_store.specs.Content.{view_in}
 use Rattle.flat_core.specs.Kept.{keeps_of, timers_of}

@@ -3,7 +3,7 @@ use Rattle.std.specs.Prelude.{◌≡◌, ◌==◌, ℕ, not, List, [], ◌∷◌
 use Rattle.std.specs.List.{filter, flat_map}
 use Rattle.std.specs.List.Sorted.{IsStrictlyIncreasing}
 use Rattle.tsl_value.specs.View.{View, Plain}
-use Rattle.lift_func.specs.inner.Cells.{view_at}
+use Rattle.body_eval.specs.inner.Cells.{view_at}
 use Rattle.aggregate_store.specs.Content.{content_of}
 use Rattle.flat_core.specs.Kept.{keeps_of, timers_of}
 use Rattle.flat_core.specs.Line.{Line, inputs_of}

@@ -10,9 +10,9 @@ use monitor_run::state::MonitorState;
 use recursion_check::check::run_order;
 use register_code::code::{Code, generate};
 use register_code::copying::copying_plan;
+use sample_systems::systems::sample;
 use std::alloc::Global;
 use std::test::Fail;
-use trigger_starts::sample::sample;
 use tsl_value::bytes::Bytes;
 use tsl_value::time::Time;
 

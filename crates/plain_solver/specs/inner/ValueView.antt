@@ -1,8 +1,8 @@
 -- Values as views.
 use Rattle.std.specs.Prelude.{◌≡◌, Option, Result, Ok, Err}
 use Rattle.tsl_value.specs.View.{View, Plain}
-use Rattle.lift_func.specs.declared.eval.EvalFault.{EvalFault}
-use Rattle.lift_func.specs.declared.eval.EvalFault.TheVariants as eval_fault
+use Rattle.body_eval.specs.declared.eval.EvalFault.{EvalFault}
+use Rattle.body_eval.specs.declared.eval.EvalFault.TheVariants as eval_fault
 use Rattle.lift_func.specs.declared.fault.FaultKind.{FaultKind}
 use Rattle.lift_func.specs.Apply.{Answer}
 use Rattle.aggregate_store.specs.inner.CellView as cell

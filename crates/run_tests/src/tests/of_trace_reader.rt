@@ -1,9 +1,9 @@
 // The reader, on a small trace.
 
+use sample_systems::systems::sample;
 use std::test::Fail;
 use trace_reader::next::Rest;
 use trace_reader::reader::TraceReader;
-use trigger_starts::sample::sample;
 
 // The system has no input of this name, so that the line only says its time.
 #[test]

@@ -5,7 +5,7 @@ use Rattle.std.specs.Int.{w64, cast_signed, from_be_bytes}
 use Rattle.std.specs.List.{list_all}
 use Rattle.std.specs.Ordering.{is_lt}
 use Rattle.std.specs.Str.{bytes_eq, is_utf8}
-use Rattle.tsl_value.specs.declared.limits.TheConstants.{MOST_TEXT_BYTES, MOST_TRACE_BYTES}
+use Rattle.tsl_value.specs.declared.limits.TheConstants.{MOST_INSTANTS, MOST_TEXT_BYTES, MOST_TRACE_BYTES}
 use Rattle.tsl_value.specs.declared.scalar.KeyType.{KeyType}
 use Rattle.tsl_value.specs.declared.scalar.KeyType.TheVariants as key_type
 use Rattle.tsl_value.specs.declared.scalar.Scalar.{Scalar}
@@ -33,11 +33,10 @@ use Rattle.monitor_run.specs.declared.state.MonitorState.{MonitorState}
 use Rattle.monitor_run.specs.declared.state.OpenEvent.{OpenEvent}
 use Rattle.monitor_run.specs.declared.state.SavedRegister.{SavedRegister}
 use Rattle.monitor_run.specs.declared.state.SavedRegister.TheVariants as saved
-use Rattle.command_words.specs.declared.limits.TheConstants.{MOST_INSTANTS}
 use Rattle.state_snapshot.specs.declared.fault.StateFault.{StateFault}
 use Rattle.state_snapshot.specs.declared.fault.StateFault.TheVariants as fault
-use Rattle.state_snapshot.specs.declared.run_state.RunState.{RunState}
-use Rattle.state_snapshot.specs.Spelling.{IsOfOther, mark}
+use Rattle.run_state.specs.declared.state.RunState.{RunState}
+use Rattle.run_state.specs.Spelling.{IsOfOther, mark}
 
 infixl 10 ◌>>=◌
 abbrev pub ◌>>=◌ : {A B : Type 0} → Option A → (A → Option B) → Option B

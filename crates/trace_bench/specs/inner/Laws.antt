@@ -1,7 +1,7 @@
 -- Laws of the bench.
 use Rattle.std.specs.Prelude.{ℕ, List}
-use Rattle.spec_compiler.specs.Compiled.{IsRefusedBy}
-use Rattle.spec_reader.specs.declared.fault.SpecFault.{SpecFault}
+use Rattle.compiled_meaning.specs.Compiled.{IsRefusedBy}
+use Rattle.source_rules.specs.declared.fault.SpecFault.{SpecFault}
 use Rattle.trace_bench.specs.Bench.{IsBenched}
 use Rattle.trace_bench.specs.declared.outcome.Outcome.{Outcome}
 use Rattle.trace_bench.specs.declared.outcome.Outcome.TheVariants as outcome

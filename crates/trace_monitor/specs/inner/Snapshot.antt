@@ -2,7 +2,7 @@
 use Rattle.register_code.specs.Code.{Code}
 use Rattle.trace_reader.specs.inner.Saved as reader
 use Rattle.monitor_run.specs.inner.Saved as engine
-use Rattle.state_snapshot.specs.declared.run_state.RunState.{RunState}
+use Rattle.run_state.specs.declared.state.RunState.{RunState}
 use Rattle.trace_monitor.specs.Saved.{AreOptionsOf}
 use Rattle.trace_monitor.specs.inner.State.{State}
 

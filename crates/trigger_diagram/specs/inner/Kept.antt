@@ -8,8 +8,8 @@ use Rattle.trigger_starts.specs.declared.rules.Rule.{Rule}
 use Rattle.trigger_starts.specs.inner.AtomLists.{HasAtoms, atoms_at}
 use Rattle.trigger_starts.specs.inner.Kept.{AreRulesOf, AreStarts, IsOrder}
 use Rattle.trigger_starts.specs.inner.Rules.{AreClosed, is_marked}
-use Rattle.trigger_diagram.specs.declared.arena.Branch.{Branch}
-use Rattle.trigger_diagram.specs.inner.Arena.{IsNode}
+use Rattle.decision_diagrams.specs.declared.arena.Branch.{Branch}
+use Rattle.decision_diagrams.specs.inner.Arena.{IsNode}
 use Rattle.trigger_diagram.specs.inner.Made.{AreNodesOf}
 use Rattle.trigger_diagram.specs.inner.Truth.{truth}
 

@@ -6,8 +6,8 @@ use Rattle.trigger_rules.specs.Formula.{Assignment}
 use Rattle.trigger_starts.specs.declared.rules.Rule.{Rule}
 use Rattle.trigger_starts.specs.inner.Rules.{used_by}
 use Rattle.trigger_starts.specs.inner.Truth.{IsMet}
-use Rattle.trigger_diagram.specs.declared.arena.Branch.{Branch}
-use Rattle.trigger_diagram.specs.inner.Arena.{IsNode}
+use Rattle.decision_diagrams.specs.declared.arena.Branch.{Branch}
+use Rattle.decision_diagrams.specs.inner.Arena.{IsNode}
 use Rattle.trigger_diagram.specs.inner.Truth.{truth}
 
 -- the node of an equation, and false where none is made

@@ -3,9 +3,9 @@ use Rattle.std.specs.Prelude.{◌≡◌, ℕ, zero, suc, ◌+◌, ◌*◌, Bool,
 use Rattle.trigger_rules.specs.declared.atom.Atom.{Atom}
 use Rattle.trigger_rules.specs.declared.atom.Atom.TheVariants.{Start, Happens, Holds}
 use Rattle.trigger_rules.specs.Formula.{Assignment}
-use Rattle.trigger_diagram.specs.declared.arena.Branch.{Branch}
-use Rattle.trigger_diagram.specs.inner.DecisionTree.{Valuation, value}
-use Rattle.trigger_diagram.specs.inner.Arena.{tree_at, IsNode}
+use Rattle.decision_diagrams.specs.declared.arena.Branch.{Branch}
+use Rattle.decision_diagrams.specs.inner.DecisionTree.{Valuation, value}
+use Rattle.decision_diagrams.specs.inner.Arena.{tree_at, IsNode}
 
 -- the variable of an atom
 abbrev pub variable_of : Atom → ℕ

@@ -5,12 +5,12 @@ use Rattle.std.specs.List.{Contains}
 use Rattle.flat_core.specs.System.{System}
 use Rattle.trigger_rules.specs.declared.atom.Atom.{Atom}
 use Rattle.trigger_rules.specs.Question.{Stands}
-use Rattle.trigger_diagram.specs.declared.arena.Branch.{Branch}
-use Rattle.trigger_diagram.specs.declared.join.Pair.{Pair}
-use Rattle.trigger_diagram.specs.declared.join.Split.{Split}
-use Rattle.trigger_diagram.specs.inner.DecisionTree.{DecisionTree, Leaf, Fork}
-use Rattle.trigger_diagram.specs.inner.Arena.{tree_at, AreCanonical, Grows}
-use Rattle.trigger_diagram.specs.inner.Join.{AreNodes, IsSplit}
+use Rattle.decision_diagrams.specs.declared.arena.Branch.{Branch}
+use Rattle.decision_diagrams.specs.declared.join.Pair.{Pair}
+use Rattle.decision_diagrams.specs.declared.join.Split.{Split}
+use Rattle.decision_diagrams.specs.inner.DecisionTree.{DecisionTree, Leaf, Fork}
+use Rattle.decision_diagrams.specs.inner.Arena.{tree_at, AreCanonical, Grows}
+use Rattle.decision_diagrams.specs.inner.Join.{AreNodes, IsSplit}
 use Rattle.trigger_diagram.specs.inner.Kept.{Kept, AreDiagramsOf, IsNodeIn, IsNodeOf}
 use Rattle.trigger_diagram.specs.inner.Truth.{variable_of}
 

@@ -1,9 +1,9 @@
 // Each call, with ample memory.
 
-ghost use Rattle.lift_func.specs.inner.Cells.{IsLive};
+ghost use Rattle.body_eval.specs.inner.Cells.{IsLive};
 
 use aggregate_store::store::Store;
-use lift_func::reader::Reader;
+use body_eval::reader::Reader;
 use std::alloc::Global;
 use std::test::Fail;
 use tsl_value::bytes::Bytes;

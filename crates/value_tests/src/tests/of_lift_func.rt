@@ -3,8 +3,8 @@
 ghost use Rattle.std.specs.Prelude.{◌≡◌};
 ghost use Rattle.lift_func.specs.BodyTree.{Literal};
 
+use body_eval::eval::{EvalFault, eval_scalars};
 use lift_func::body::Body;
-use lift_func::eval::{EvalFault, eval_scalars};
 use lift_func::fault::FaultKind;
 use std::alloc::Global;
 use tsl_value::operation::{Binary, Unary};

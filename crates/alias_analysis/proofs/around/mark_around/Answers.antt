@@ -1,6 +1,6 @@
 use Rattle.std.proofs.Common.{◌≡◌, suc, ◌-◌, ◌<◌, length, subst, arith}
 use Rattle.alias_paths.specs.inner.Search.{marks_of, first_at, IsAfterLast, MarkedAll}
-use Rattle.alias_analysis.proofs.Circling.{IsAroundFrom, around_none, around_more, around_all}
+use Rattle.alias_nears.proofs.Circling.{IsAroundFrom, around_none, around_more, around_all}
 use Rattle.alias_analysis.proofs.around.mark_around.Goals as goal
 
 pub loop-next-init : goal.loop-next-init

@@ -1,6 +1,6 @@
 use Rattle.std.proofs.Common.{◌≡◌, ℕ, suc, ◌≤◌, length}
 use Rattle.alias_paths.specs.inner.Search.{marks_of, AreListed, MarkedAll, first_at}
-use Rattle.alias_analysis.proofs.Circling.{IsAroundFrom}
+use Rattle.alias_nears.proofs.Circling.{IsAroundFrom}
 use Rattle.alias_analysis.proofs.around.mark_around.Given as goal
 
 abbrev pub invariant-loop-next : goal.invariant-loop-next

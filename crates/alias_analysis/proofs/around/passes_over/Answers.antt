@@ -1,6 +1,6 @@
 use Rattle.std.proofs.Common.{◌<◌, length, sym, subst}
 use Rattle.flat_core.specs.System.{System}
-use Rattle.alias_analysis.proofs.Bypassing.{merged_low}
+use Rattle.alias_nears.proofs.Bypassing.{merged_low}
 use Rattle.alias_analysis.proofs.around.passes_over.Goals as goal
 
 pub implies-requires-clause-there : goal.implies-requires-clause-there

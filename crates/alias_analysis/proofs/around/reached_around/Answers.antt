@@ -1,8 +1,8 @@
 use Rattle.std.proofs.Common.{length, ap, ◌∙◌, sym, subst}
 use Rattle.alias_paths.specs.inner.Search.{marks_of, AreReached}
-use Rattle.alias_analysis.specs.inner.Contents.{IsPairAround}
+use Rattle.alias_nears.specs.inner.Contents.{IsPairAround}
 use Rattle.flat_core.proofs.Spreads.{spreading_none}
-use Rattle.alias_analysis.proofs.Bypassing.{reached_around}
+use Rattle.alias_nears.proofs.Bypassing.{reached_around}
 use Rattle.alias_paths.proofs.Rooting.{carriers_of_steps}
 use Rattle.alias_paths.proofs.Spreads.{spread_reaches}
 use Rattle.alias_analysis.proofs.around.reached_around.Goals as goal

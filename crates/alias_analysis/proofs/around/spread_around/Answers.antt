@@ -1,7 +1,7 @@
 use Rattle.std.proofs.Common.{refl}
 use Rattle.flat_core.specs.declared.reach.Marks.{Marks}
 use Rattle.alias_paths.specs.inner.Search.{marks_of}
-use Rattle.alias_analysis.specs.inner.Contents.{IsPairAround}
+use Rattle.alias_nears.specs.inner.Contents.{IsPairAround}
 use Rattle.flat_core.proofs.Spreads.{spreading_more}
 use Rattle.alias_analysis.proofs.around.spread_around.Goals as goal
 

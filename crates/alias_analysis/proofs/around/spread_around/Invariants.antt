@@ -1,6 +1,6 @@
 use Rattle.flat_core.specs.inner.Marks.{left, Spreading}
 use Rattle.alias_paths.specs.inner.Search.{marks_of, AreListed}
-use Rattle.alias_analysis.specs.inner.Contents.{IsPairAround}
+use Rattle.alias_nears.specs.inner.Contents.{IsPairAround}
 use Rattle.alias_analysis.proofs.around.spread_around.Given as goal
 
 abbrev pub invariant-loop-number : goal.invariant-loop-number

@@ -1,6 +1,6 @@
 use Rattle.std.proofs.Common.{take}
 use Rattle.alias_paths.specs.inner.Marking.{AddsMarks, IsMarkedBy}
-use Rattle.alias_analysis.specs.inner.Contents.{IsMarkedBeside}
+use Rattle.alias_nears.specs.inner.Contents.{IsMarkedBeside}
 use Rattle.alias_paths.proofs.Adding.{IsIt}
 use Rattle.alias_analysis.proofs.bypass.beside.Given as goal
 

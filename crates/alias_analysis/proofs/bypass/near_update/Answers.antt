@@ -1,5 +1,5 @@
 use Rattle.std.proofs.Common.{◌∙◌}
-use Rattle.alias_analysis.proofs.Bypassing.{near_are, bypassed_are}
+use Rattle.alias_nears.proofs.Bypassing.{near_are, bypassed_are}
 use Rattle.alias_analysis.proofs.bypass.near_update.Goals as goal
 
 pub beside-requires-clause-one_each : goal.beside-requires-clause-one_each

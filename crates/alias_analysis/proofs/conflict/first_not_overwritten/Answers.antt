@@ -2,7 +2,7 @@ use Rattle.std.proofs.Common.{◌≡◌, ℕ, ◌<◌, List, length, subst, arit
 use Rattle.std.specs.Prelude.{MatchOption}
 use Rattle.translation_order.specs.Least.{IsLeast}
 use Rattle.alias_rules.specs.Conflict.{IsNotOverwritten}
-use Rattle.alias_analysis.proofs.Conflicts.{update_low, first_at, none_next, none_in_all}
+use Rattle.alias_nears.proofs.Conflicts.{update_low, first_at, none_next, none_in_all}
 use Rattle.alias_analysis.proofs.conflict.first_not_overwritten.Goals as goal
 
 below : (set : List ℕ) (k end : ℕ) → end ≡ length set → k < end → k < length set

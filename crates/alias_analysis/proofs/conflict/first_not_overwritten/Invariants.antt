@@ -1,5 +1,5 @@
 use Rattle.alias_rules.specs.Conflict.{IsNotOverwritten}
-use Rattle.alias_analysis.proofs.Conflicts.{NoneBefore}
+use Rattle.alias_nears.proofs.Conflicts.{NoneBefore}
 use Rattle.alias_analysis.proofs.conflict.first_not_overwritten.Given as goal
 
 abbrev pub invariant-loop-place : goal.invariant-loop-place

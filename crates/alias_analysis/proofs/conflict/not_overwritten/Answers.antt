@@ -2,8 +2,8 @@ use Rattle.std.proofs.Common.{length}
 use Rattle.std.proofs.lemmas.Result.{IfOk-weaker}
 use Rattle.alias_rules.specs.Conflict.{IsNotOverwritten}
 use Rattle.alias_paths.specs.inner.Marking.{AreJust}
-use Rattle.alias_analysis.specs.inner.Contents.{IsMarkedUnimplied}
-use Rattle.alias_analysis.proofs.Conflicts.{not_overwritten_are}
+use Rattle.alias_nears.specs.inner.Contents.{IsMarkedUnimplied}
+use Rattle.alias_nears.proofs.Conflicts.{not_overwritten_are}
 use Rattle.alias_analysis.proofs.conflict.not_overwritten.Goals as goal
 
 pub returns : goal.returns

@@ -1,6 +1,6 @@
 use Rattle.std.proofs.Common.{length, refl}
 use Rattle.alias_rules.specs.Conflict.{IsNotOverwritten}
-use Rattle.alias_analysis.proofs.Conflicts.{least_of}
+use Rattle.alias_nears.proofs.Conflicts.{least_of}
 use Rattle.alias_analysis.proofs.conflict.not_overwritten_in.Goals as goal
 
 pub returns : goal.returns

@@ -1,6 +1,6 @@
 use Rattle.std.proofs.Common.{length, get_or, false, replicate, ap, ◌∙◌, arith}
 use Rattle.flat_core.proofs.MarkLemmas.{mark_within}
-use Rattle.alias_analysis.specs.inner.Contents.{IsMarkedUnimplied}
+use Rattle.alias_nears.specs.inner.Contents.{IsMarkedUnimplied}
 use Rattle.alias_paths.proofs.Adding.{IsIt, marked_none, read_again, listed_low, listed_more, listed_all, none_long}
 use Rattle.alias_analysis.proofs.conflict.unimplied.Goals as goal
 

@@ -1,6 +1,6 @@
 use Rattle.std.proofs.Common.{◌≡◌, ◌<◌, List, ℕ, length, arith}
-use Rattle.alias_analysis.proofs.Conflicts.{update_low}
-use Rattle.alias_analysis.proofs.Constraining.{asked_next, constraints_are, constraints_of_steps}
+use Rattle.alias_nears.proofs.Conflicts.{update_low}
+use Rattle.alias_nears.proofs.Constraining.{asked_next, constraints_are, constraints_of_steps}
 use Rattle.alias_analysis.proofs.constraints.constraints.Goals as goal
 
 below : (set : List ℕ) (k end : ℕ) → end ≡ length set → k < end → k < length set

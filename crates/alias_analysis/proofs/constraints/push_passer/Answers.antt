@@ -1,4 +1,4 @@
-use Rattle.alias_analysis.proofs.Constraining.{passer_there, passer_added}
+use Rattle.alias_nears.proofs.Constraining.{passer_there, passer_added}
 use Rattle.alias_analysis.proofs.constraints.push_passer.Goals as goal
 
 pub returns-then-marks-passer : goal.returns-then-marks-passer

@@ -1,6 +1,6 @@
 use Rattle.std.proofs.Common.{get_or, arith}
 use Rattle.alias_paths.proofs.Adding.{read_again}
-use Rattle.alias_analysis.proofs.Constraining.{passer_more, passers_all}
+use Rattle.alias_nears.proofs.Constraining.{passer_more, passers_all}
 use Rattle.alias_analysis.proofs.constraints.push_passers.Goals as goal
 
 pub push_passer-requires-clause-marked : goal.push_passer-requires-clause-marked

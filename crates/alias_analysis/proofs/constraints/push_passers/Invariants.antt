@@ -1,7 +1,7 @@
 use Rattle.std.proofs.Common.{take}
-use Rattle.alias_analysis.specs.inner.Constraints.{PassesMarked}
+use Rattle.alias_nears.specs.inner.Constraints.{PassesMarked}
 use Rattle.alias_paths.specs.inner.Pairs.{Adds, IsGiven}
-use Rattle.alias_analysis.proofs.Constraining.{GivesTaker}
+use Rattle.alias_nears.proofs.Constraining.{GivesTaker}
 use Rattle.alias_analysis.proofs.constraints.push_passers.Given as goal
 
 abbrev pub invariant-loop-variable : goal.invariant-loop-variable

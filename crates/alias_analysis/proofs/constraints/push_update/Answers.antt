@@ -2,8 +2,8 @@ use Rattle.std.proofs.Common.{◌≡◌, length, sym, ap, subst, ◌∙◌, arit
 use Rattle.translation_order.specs.Order.{AreOfSteps}
 use Rattle.alias_rules.specs.Uses.{read_of, passed_of, written_of}
 use Rattle.alias_paths.specs.inner.Pairs.{Adds}
-use Rattle.alias_analysis.specs.inner.Constraints.{IsMarkedBefore, IsTakenBefore, IsWrittenBefore, IsPassedBefore, IsPrintedBefore}
-use Rattle.alias_analysis.proofs.Constraining.{update_adds}
+use Rattle.alias_nears.specs.inner.Constraints.{IsMarkedBefore, IsTakenBefore, IsWrittenBefore, IsPassedBefore, IsPrintedBefore}
+use Rattle.alias_nears.proofs.Constraining.{update_adds}
 use Rattle.alias_paths.proofs.Using.{uses_of_steps}
 use Rattle.alias_analysis.proofs.constraints.push_update.Goals as goal
 

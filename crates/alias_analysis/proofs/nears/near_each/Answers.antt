@@ -1,6 +1,6 @@
 use Rattle.std.proofs.Common.{◌≡◌, ℕ, ◌<◌, List, length, arith}
-use Rattle.alias_analysis.proofs.Conflicts.{update_low}
-use Rattle.alias_analysis.proofs.Nearing.{near_more}
+use Rattle.alias_nears.proofs.Conflicts.{update_low}
+use Rattle.alias_nears.proofs.Nearing.{near_more}
 use Rattle.alias_analysis.proofs.nears.near_each.Goals as goal
 
 below : (set : List ℕ) (k end : ℕ) → end ≡ length set → k < end → k < length set

@@ -1,4 +1,4 @@
-use Rattle.alias_analysis.specs.inner.Nears.{AreNearFirst}
+use Rattle.alias_nears.specs.inner.Nears.{AreNearFirst}
 use Rattle.alias_analysis.proofs.nears.near_each.Given as goal
 
 abbrev pub invariant-loop-place : goal.invariant-loop-place

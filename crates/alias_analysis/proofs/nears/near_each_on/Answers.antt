@@ -1,5 +1,5 @@
 use Rattle.std.proofs.Common.{refl}
-use Rattle.alias_analysis.proofs.Nearing.{near_more}
+use Rattle.alias_nears.proofs.Nearing.{near_more}
 use Rattle.alias_analysis.proofs.nears.near_each_on.Goals as goal
 
 pub loop-place-preserved : goal.loop-place-preserved

@@ -1,8 +1,8 @@
 use Rattle.std.proofs.Common.{◌≡◌, ◌<◌, ℕ, length, get_or, sym, subst, ◌∙◌}
 use Rattle.std.specs.Prelude.{IfOk}
-use Rattle.alias_analysis.specs.inner.Nears.{AreNear}
-use Rattle.alias_analysis.proofs.Conflicts.{update_low, is_inside}
-use Rattle.alias_analysis.proofs.Nearing.{near_at}
+use Rattle.alias_nears.specs.inner.Nears.{AreNear}
+use Rattle.alias_nears.proofs.Conflicts.{update_low, is_inside}
+use Rattle.alias_nears.proofs.Nearing.{near_at}
 use Rattle.alias_analysis.proofs.nears.near_next.Goals as goal
 
 pub near_on-requires-clause-earlier : goal.near_on-requires-clause-earlier

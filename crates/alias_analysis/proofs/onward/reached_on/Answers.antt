@@ -1,8 +1,8 @@
 use Rattle.std.proofs.Common.{length, sym, ap, subst, ◌∙◌}
 use Rattle.alias_paths.specs.inner.Search.{marks_of}
 use Rattle.alias_paths.proofs.Rooting.{carriers_of_steps}
-use Rattle.alias_analysis.specs.inner.Contents.{IsPairAround, AreReachedOn}
-use Rattle.alias_analysis.proofs.GoingOn.{goes_on, reached_all}
+use Rattle.alias_nears.specs.inner.Contents.{IsPairAround, AreReachedOn}
+use Rattle.alias_nears.proofs.GoingOn.{goes_on, reached_all}
 use Rattle.alias_analysis.proofs.onward.reached_on.Goals as goal
 
 pub mark_each-requires : goal.mark_each-requires

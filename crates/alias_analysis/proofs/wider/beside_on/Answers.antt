@@ -1,8 +1,8 @@
 use Rattle.std.proofs.Common.{length, get_or, ap, ◌∙◌, arith}
 use Rattle.flat_core.proofs.MarkLemmas.{mark_within}
-use Rattle.alias_analysis.specs.inner.Contents.{IsNewBeside}
+use Rattle.alias_nears.specs.inner.Contents.{IsNewBeside}
 use Rattle.alias_paths.proofs.Adding.{IsIt, marked_none, read_again, listed_low, listed_more}
-use Rattle.alias_analysis.proofs.Widening.{added_listed, beside_on_are}
+use Rattle.alias_nears.proofs.Widening.{added_listed, beside_on_are}
 use Rattle.alias_analysis.proofs.wider.beside_on.Goals as goal
 
 pub loop-number-init : goal.loop-number-init

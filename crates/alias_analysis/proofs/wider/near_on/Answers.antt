@@ -1,8 +1,8 @@
 use Rattle.std.proofs.Common.{List, ℕ, length, sym, subst, ◌∙◌}
 use Rattle.translation_order.specs.Order.{AreOfSteps}
 use Rattle.alias_paths.specs.inner.Marking.{AddsMarks, HasMarkedFirst}
-use Rattle.alias_analysis.proofs.Widening.{added_of_steps, closed_on, near_on_are, found_more}
-use Rattle.alias_analysis.proofs.Bypassing.{beside_are, bypassed_are}
+use Rattle.alias_nears.proofs.Widening.{added_of_steps, closed_on, near_on_are, found_more}
+use Rattle.alias_nears.proofs.Bypassing.{beside_are, bypassed_are}
 use Rattle.alias_analysis.proofs.wider.near_on.Goals as goal
 
 pub mark_seconds-requires-clause-pairs : goal.mark_seconds-requires-clause-pairs

@@ -1,7 +1,7 @@
 use Rattle.std.proofs.Common.{◌≡◌, inl, inr, sym, subst, ◌∙◌, arith}
 use Rattle.std.proofs.lemmas.Bool.{cases_lt, false≢true}
 use Rattle.std.proofs.lemmas.Option.{slice_get_within}
-use Rattle.alias_analysis.specs.inner.Beginning.{IsNilVariable}
+use Rattle.alias_nears.specs.inner.Beginning.{IsNilVariable}
 use Rattle.last_use.proofs.block.none_is_nil.Goals as goal
 
 pub loop-number-preserved : goal.loop-number-preserved

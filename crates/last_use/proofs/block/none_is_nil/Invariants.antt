@@ -1,5 +1,5 @@
 use Rattle.std.proofs.Common.{ℕ, ◌<◌}
-use Rattle.alias_analysis.specs.inner.Beginning.{IsNilVariable}
+use Rattle.alias_nears.specs.inner.Beginning.{IsNilVariable}
 use Rattle.last_use.proofs.block.none_is_nil.Given as goal
 
 abbrev pub invariant-loop-number : goal.invariant-loop-number

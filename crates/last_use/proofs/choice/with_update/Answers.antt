@@ -4,7 +4,7 @@ use Rattle.flat_core.specs.Members.{is_in}
 use Rattle.alias_rules.proofs.Below.{listed_low}
 use Rattle.alias_rules.specs.Fine.{IsFine}
 use Rattle.alias_rules.specs.Uses.{AreUpdates}
-use Rattle.alias_analysis.specs.declared.reason.Reason.{Reason}
+use Rattle.alias_nears.specs.declared.reason.Reason.{Reason}
 use Rattle.last_use.specs.inner.Choosing.{IsChosenBelow, IsRefusal}
 use Rattle.last_use.specs.Reasons.{IsReason}
 use Rattle.last_use.proofs.Choosing.{tried_updates, tried_wider, accepted, refused}

@@ -3,8 +3,8 @@ use Rattle.std.proofs.lemmas.Result.{IfOk-weaker}
 use Rattle.flat_core.specs.System.{System}
 use Rattle.alias_rules.specs.Conflict.{StandsBefore}
 use Rattle.alias_rules.specs.Steps.{step_count}
-use Rattle.alias_analysis.specs.inner.Answer.{IsFirstConflict}
-use Rattle.alias_analysis.specs.declared.reason.Reason.{Reason}
+use Rattle.alias_nears.specs.inner.Answer.{IsFirstConflict}
+use Rattle.alias_nears.specs.declared.reason.Reason.{Reason}
 use Rattle.last_use.specs.inner.Choosing.{IsRefusal}
 use Rattle.last_use.specs.inner.Cycles.{IsCycleOrNone}
 use Rattle.last_use.proofs.Reasoning.{refusal_by}

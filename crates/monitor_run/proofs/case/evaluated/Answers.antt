@@ -1,5 +1,5 @@
 use Rattle.std.proofs.Common.{subst, sym, ◌∙◌}
-use Rattle.lift_func.specs.inner.Evaluable.{IsEvaluable}
+use Rattle.body_eval.specs.inner.Evaluable.{IsEvaluable}
 use Rattle.monitor_run.proofs.case.evaluated.Goals as goal
 
 pub eval-requires : goal.eval-requires

@@ -1,7 +1,7 @@
 use Rattle.std.proofs.Common.{set, ap, ◌∙◌}
 use Rattle.std.proofs.lemmas.List.Edits.{map_over_more}
-use Rattle.lift_func.specs.declared.register.Register.{Register}
-use Rattle.lift_func.specs.declared.register.Register.TheVariants.{Empty}
+use Rattle.body_eval.specs.declared.register.Register.{Register}
+use Rattle.body_eval.specs.declared.register.Register.TheVariants.{Empty}
 use Rattle.monitor_run.proofs.end.empty_all.Goals as goal
 
 pub loop-register-preserved : goal.loop-register-preserved

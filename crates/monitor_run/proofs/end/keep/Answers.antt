@@ -1,7 +1,7 @@
 use Rattle.std.proofs.Common.{◌≡◌, ℕ, Bool, ◌<◌, ◌+◌, ◌&&◌, false, length, set, sym, ap, subst, ◌∙◌, arith, length-set}
 use Rattle.std.proofs.lemmas.List.{get_or_default}
 use Rattle.std.specs.Prelude.{if◌then◌else◌, slice_index_or}
-use Rattle.lift_func.specs.declared.register.Register.TheVariants as register
+use Rattle.body_eval.specs.declared.register.Register.TheVariants as register
 use Rattle.flat_core.specs.Members.{is_in}
 use Rattle.monitor_run.specs.inner.Instant.{kept_in, kept_register}
 use Rattle.monitor_run.specs.inner.Registers.{register_at}

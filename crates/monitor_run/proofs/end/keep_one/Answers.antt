@@ -1,7 +1,7 @@
 use Rattle.std.proofs.Common.{◌≡◌, not, sym, ap, ◌∙◌, arith}
 use Rattle.std.proofs.lemmas.List.{get_or_default}
 use Rattle.std.specs.Prelude.{if◌then◌else◌}
-use Rattle.lift_func.specs.declared.register.Register.TheVariants as register
+use Rattle.body_eval.specs.declared.register.Register.TheVariants as register
 use Rattle.monitor_run.specs.inner.Instant.{kept_in}
 use Rattle.monitor_run.specs.inner.Registers.{register_at}
 use Rattle.monitor_run.proofs.EndLemmas.{kept_none, kept_some}

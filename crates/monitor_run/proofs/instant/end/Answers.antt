@@ -5,7 +5,7 @@ use Rattle.std.specs.List.{All}
 use Rattle.std.specs.FinMap as finite_map
 use Rattle.std.specs.Vec.{with_items}
 use Rattle.aggregate_store.specs.inner.Stored.{is_listed}
-use Rattle.lift_func.specs.declared.register.Register.TheVariants.{Empty}
+use Rattle.body_eval.specs.declared.register.Register.TheVariants.{Empty}
 use Rattle.flat_core.specs.Members.{is_in}
 use Rattle.flat_core.specs.System.{equation}
 use Rattle.flat_core.specs.Kept.{is_timer}

@@ -1,5 +1,5 @@
 use Rattle.std.proofs.Common.{◌≡◌, replicate}
-use Rattle.lift_func.specs.declared.register.Register.TheVariants.{Empty}
+use Rattle.body_eval.specs.declared.register.Register.TheVariants.{Empty}
 use Rattle.monitor_run.proofs.machine.empty_registers.Given as goal
 
 abbrev pub invariant-loop-n : goal.invariant-loop-n

@@ -1,7 +1,7 @@
 use Rattle.std.proofs.Common.{◌≡◌, true, length, refl, sym, ap, ◌∙◌}
 use Rattle.std.proofs.lemmas.List.{length-set, with_items_is}
 use Rattle.std.specs.Prelude.{slice_set}
-use Rattle.lift_func.specs.declared.register.Register.TheVariants.{Empty}
+use Rattle.body_eval.specs.declared.register.Register.TheVariants.{Empty}
 use Rattle.flat_core.specs.Members.{is_in}
 use Rattle.monitor_run.specs.inner.Here.{handed_of, is_blocked_here, source_of}
 use Rattle.monitor_run.specs.inner.Instant.{was_given, was_barred, was_filled}

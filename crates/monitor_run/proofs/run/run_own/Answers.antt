@@ -2,7 +2,7 @@ use Rattle.std.proofs.Common.{◌≡◌, true, length, Ok, refl, ap, ◌∙◌}
 use Rattle.std.proofs.lemmas.List.{length-set, with_items_is}
 use Rattle.std.specs.Prelude.{slice_set}
 use Rattle.std.specs.Vec.{with_items}
-use Rattle.lift_func.specs.declared.register.Register.TheVariants.{Empty}
+use Rattle.body_eval.specs.declared.register.Register.TheVariants.{Empty}
 use Rattle.flat_core.specs.Members.{is_in}
 use Rattle.monitor_run.specs.inner.Here.{HasEffect, source_of, effect_here}
 use Rattle.monitor_run.specs.inner.Instant.{was_filled, has_failed}

@@ -1,8 +1,8 @@
 use Rattle.std.proofs.Common.{Option, None, subst}
 use Rattle.std.proofs.lemmas.Result.{IfOk-weaker}
 use Rattle.flat_core.specs.System.{System}
-use Rattle.alias_analysis.specs.inner.Answer.{IsFirstConflict}
-use Rattle.alias_analysis.specs.declared.reason.Reason.{Reason}
+use Rattle.alias_nears.specs.inner.Answer.{IsFirstConflict}
+use Rattle.alias_nears.specs.declared.reason.Reason.{Reason}
 use Rattle.plan_check.proofs.Fineness.{fine_without, not_fine_if}
 use Rattle.plan_check.proofs.plan.is_fine_for.Goals as goal
 

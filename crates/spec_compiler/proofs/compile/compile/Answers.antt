@@ -1,4 +1,4 @@
-use Rattle.spec_compiler.proofs.Readiness.{ready_as}
+use Rattle.compiled_meaning.proofs.Readiness.{ready_as}
 use Rattle.spec_compiler.proofs.compile.compile.Goals as goal
 
 pub returns-clause-ready : goal.returns-clause-ready

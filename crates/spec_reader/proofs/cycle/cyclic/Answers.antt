@@ -1,5 +1,5 @@
 use Rattle.std.proofs.Common.{◌<◌, length, sym, subst}
-use Rattle.spec_reader.proofs.CycleLemmas.{walked_there, walked_some, there_at}
+use Rattle.source_rules.proofs.CycleLemmas.{walked_there, walked_some, there_at}
 use Rattle.spec_reader.proofs.cycle.cyclic.Goals as goal
 
 pub names_of-requires : goal.names_of-requires

@@ -3,8 +3,8 @@ use Rattle.std.proofs.lemmas.List.{length-map}
 use Rattle.std.proofs.lemmas.Result.{err_from_is_err_and}
 use Rattle.syntax_tree.specs.inner.OneLevel.{item_of}
 use Rattle.call_limits.proofs.ChainLemmas.{macros_limited}
-use Rattle.spec_reader.proofs.SourceLemmas.{flat_refused, make_refused, has_system}
-use Rattle.spec_reader.proofs.TypedLemmas.{is_checked, has_outputs, have_short_texts, has_few_nodes, few_items, are_plain}
+use Rattle.source_rules.proofs.SourceLemmas.{flat_refused, make_refused, has_system}
+use Rattle.source_rules.proofs.TypedLemmas.{is_checked, has_outputs, have_short_texts, has_few_nodes, few_items, are_plain}
 use Rattle.spec_reader.proofs.read.flat_of.Goals as goal
 
 pub bodies_of-requires-clause-few : goal.bodies_of-requires-clause-few

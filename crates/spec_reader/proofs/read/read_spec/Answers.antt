@@ -1,8 +1,9 @@
 use Rattle.std.proofs.lemmas.Result.{err_from_is_err_and}
 use Rattle.syntax_tree.specs.inner.OneLevel.{items_of}
-use Rattle.spec_reader.proofs.CountLemmas.{few_nodes}
+use Rattle.source_rules.proofs.CountLemmas.{few_nodes}
 use Rattle.expr_types.specs.inner.Shown.{kinds_of}
-use Rattle.spec_reader.proofs.SourceLemmas.{tree_typed, spells_something}
+use Rattle.source_rules.proofs.SourceLemmas.{tree_typed}
+use Rattle.spec_reader.proofs.WholeLemmas.{spells_something}
 use Rattle.spec_reader.proofs.read.read_spec.Goals as goal
 
 pub check-requires : goal.check-requires

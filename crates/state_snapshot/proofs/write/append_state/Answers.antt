@@ -1,7 +1,7 @@
 use Rattle.std.proofs.Common.{◌++◌}
 use Rattle.std.proofs.lemmas.Result.{on_err_weaker, on_ok_weaker}
 use Rattle.register_code.specs.Text.{code_text}
-use Rattle.state_snapshot.specs.Spelling.{events_bytes, kept_bytes, mark, options_bytes, reader_bytes, text}
+use Rattle.run_state.specs.Spelling.{events_bytes, kept_bytes, mark, options_bytes, reader_bytes, text}
 use Rattle.program_text.proofs.Joined.{kept}
 use Rattle.state_snapshot.proofs.Joined.{joined}
 use Rattle.state_snapshot.proofs.write.append_state.Goals as goal

@@ -1,6 +1,6 @@
 use Rattle.std.proofs.Common.{◌++◌, take}
 use Rattle.std.specs.List.{flat_map}
-use Rattle.state_snapshot.specs.Spelling.{entry_bytes, scalar_bytes}
+use Rattle.run_state.specs.Spelling.{entry_bytes, scalar_bytes}
 use Rattle.program_text.proofs.Joined.{kept}
 use Rattle.state_snapshot.proofs.Joined.{joined, on_err}
 use Rattle.state_snapshot.proofs.write.put_entries.Goals as goal

@@ -1,6 +1,6 @@
 use Rattle.std.proofs.Common.{◌≡◌, ◌++◌, take}
 use Rattle.std.specs.List.{flat_map}
-use Rattle.state_snapshot.specs.Spelling.{event_bytes}
+use Rattle.run_state.specs.Spelling.{event_bytes}
 use Rattle.state_snapshot.proofs.write.put_events.Given as goal
 
 abbrev pub invariant-loop-event : goal.invariant-loop-event

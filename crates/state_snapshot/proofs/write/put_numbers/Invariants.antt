@@ -1,6 +1,6 @@
 use Rattle.std.proofs.Common.{◌≡◌, ◌++◌, take}
 use Rattle.std.specs.List.{flat_map}
-use Rattle.state_snapshot.specs.Spelling.{number}
+use Rattle.run_state.specs.Spelling.{number}
 use Rattle.state_snapshot.proofs.write.put_numbers.Given as goal
 
 abbrev pub invariant-loop-value : goal.invariant-loop-value

@@ -1,7 +1,7 @@
 use Rattle.std.proofs.Common.{◌++◌, ◌∙◌, ap, length}
 use Rattle.std.proofs.lemmas.Result.{on_err_weaker, on_ok_weaker}
 use Rattle.std.specs.List.{flat_map}
-use Rattle.state_snapshot.specs.Spelling.{event_bytes, number}
+use Rattle.run_state.specs.Spelling.{event_bytes, number}
 use Rattle.program_text.proofs.Joined.{kept}
 use Rattle.state_snapshot.proofs.Joined.{joined}
 use Rattle.state_snapshot.proofs.write.put_open.Goals as goal

@@ -1,6 +1,6 @@
 use Rattle.std.proofs.Common.{◌++◌}
 use Rattle.std.proofs.lemmas.Result.{on_ok_weaker}
-use Rattle.state_snapshot.specs.Spelling.{flag, number}
+use Rattle.run_state.specs.Spelling.{flag, number}
 use Rattle.state_snapshot.proofs.Joined.{joined}
 use Rattle.state_snapshot.proofs.write.put_options.Goals as goal
 

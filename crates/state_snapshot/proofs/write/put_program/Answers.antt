@@ -1,6 +1,6 @@
 use Rattle.std.proofs.Common.{◌++◌, ◌∙◌, ap}
 use Rattle.std.proofs.lemmas.Result.{on_err_weaker, on_ok_weaker}
-use Rattle.state_snapshot.specs.Spelling.{mark, text}
+use Rattle.run_state.specs.Spelling.{mark, text}
 use Rattle.register_code.specs.Text.{code_text}
 use Rattle.program_text.proofs.Joined.{kept}
 use Rattle.state_snapshot.proofs.Joined.{joined}

@@ -1,6 +1,6 @@
 use Rattle.std.proofs.Common.{◌≡◌, ◌++◌, take}
 use Rattle.std.specs.List.{flat_map}
-use Rattle.state_snapshot.specs.Spelling.{scalar_bytes}
+use Rattle.run_state.specs.Spelling.{scalar_bytes}
 use Rattle.state_snapshot.proofs.write.put_scalars.Given as goal
 
 abbrev pub invariant-loop-value : goal.invariant-loop-value

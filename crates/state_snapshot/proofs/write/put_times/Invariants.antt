@@ -1,6 +1,6 @@
 use Rattle.std.proofs.Common.{◌≡◌, ◌++◌, take}
 use Rattle.std.specs.List.{flat_map}
-use Rattle.state_snapshot.specs.Spelling.{optional}
+use Rattle.run_state.specs.Spelling.{optional}
 use Rattle.state_snapshot.proofs.write.put_times.Given as goal
 
 abbrev pub invariant-loop-time : goal.invariant-loop-time

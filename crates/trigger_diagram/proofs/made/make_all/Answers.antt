@@ -4,7 +4,7 @@ use Rattle.trigger_starts.specs.inner.Rules.{used_by}
 use Rattle.trigger_starts.proofs.Meaning.{ready_at}
 use Rattle.trigger_diagram.specs.inner.Made.{IsMade}
 use Rattle.trigger_diagram.proofs.Making.{made_next}
-use Rattle.trigger_diagram.proofs.Nodes.{grows_on}
+use Rattle.decision_diagrams.proofs.Nodes.{grows_on}
 use Rattle.trigger_diagram.proofs.made.make_all.Goals as goal
 
 pub make-requires-clause-below : goal.make-requires-clause-below

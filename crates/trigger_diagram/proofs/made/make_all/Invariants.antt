@@ -1,5 +1,5 @@
 use Rattle.std.proofs.Common.{ℕ, Contains, take}
-use Rattle.trigger_diagram.specs.inner.Arena.{Grows}
+use Rattle.decision_diagrams.specs.inner.Arena.{Grows}
 use Rattle.trigger_diagram.specs.inner.Made.{AreNodesOf, IsMade}
 use Rattle.trigger_diagram.proofs.made.make_all.Given as goal
 

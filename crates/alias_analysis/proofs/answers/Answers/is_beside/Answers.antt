@@ -1,7 +1,7 @@
 use Rattle.std.proofs.Common.{◌↔◌, subst}
 use Rattle.std.specs.Prelude.{IfOk, IsTrue}
 use Rattle.flat_core.specs.System.{System}
-use Rattle.alias_analysis.specs.inner.Contents.{IsBeside}
+use Rattle.alias_nears.specs.inner.Contents.{IsBeside}
 use Rattle.alias_analysis.proofs.answers.Answers.is_beside.Goals as goal
 
 pub returns-in-None : goal.returns-in-None

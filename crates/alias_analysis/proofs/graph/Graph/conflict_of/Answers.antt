@@ -1,7 +1,7 @@
 use Rattle.std.proofs.Common.{subst}
 use Rattle.std.specs.Prelude.{IfOk}
 use Rattle.flat_core.specs.System.{System}
-use Rattle.alias_analysis.specs.inner.Answer.{IsFirstConflict}
+use Rattle.alias_nears.specs.inner.Answer.{IsFirstConflict}
 use Rattle.alias_analysis.proofs.graph.Graph.conflict_of.Goals as goal
 
 pub returns : goal.returns

@@ -1,6 +1,6 @@
 use Rattle.std.proofs.Common.{sym, subst}
 use Rattle.flat_core.specs.System.{System}
-use Rattle.alias_analysis.specs.inner.Beginning.{NoneIsNil}
+use Rattle.alias_nears.specs.inner.Beginning.{NoneIsNil}
 use Rattle.alias_analysis.proofs.graph.Graph.near_more.Goals as goal
 
 pub near_more-requires-clause-none_is_nil : goal.near_more-requires-clause-none_is_nil

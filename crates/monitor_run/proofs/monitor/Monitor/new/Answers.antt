@@ -1,5 +1,5 @@
 use Rattle.std.proofs.Common.{refl, length, replicate, ap, ◌∙◌}
-use Rattle.lift_func.specs.declared.register.Register.TheVariants.{Empty}
+use Rattle.body_eval.specs.declared.register.Register.TheVariants.{Empty}
 use Rattle.flat_core.specs.System.{System}
 use Rattle.monitor_run.specs.inner.Here.{is_marked}
 use Rattle.monitor_run.proofs.MonitorLemmas.{ready_new, rest_new, room_new, stands_new, unmarked_new}

@@ -2,7 +2,7 @@ use Rattle.std.proofs.Common.{◌<◌, ◌^◌, refl, length, map, sym, ap, subs
 use Rattle.std.specs.Prelude.{slice_index}
 use Rattle.std.specs.FinMap as finite_map
 use Rattle.std.specs.List.{flat_map}
-use Rattle.lift_func.specs.inner.Cells.{view_at}
+use Rattle.body_eval.specs.inner.Cells.{view_at}
 use Rattle.aggregate_store.specs.Content.{content_of}
 use Rattle.flat_core.specs.System.{System}
 use Rattle.flat_core.specs.Updates.{running_updates}

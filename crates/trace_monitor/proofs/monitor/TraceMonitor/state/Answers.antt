@@ -1,5 +1,5 @@
 use Rattle.std.proofs.Common.{ℕ, List, refl, subst, sym}
-use Rattle.state_snapshot.specs.declared.run_state.RunState.{RunState}
+use Rattle.run_state.specs.declared.state.RunState.{RunState}
 use Rattle.trace_monitor.specs.Saved.{AreOptionsOf, IsRunAfter}
 use Rattle.trace_monitor.specs.inner.Kept.{Kept}
 use Rattle.trace_monitor.specs.inner.Snapshot.{HasRunState, code_of}

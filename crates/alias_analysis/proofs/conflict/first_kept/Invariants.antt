@@ -1,6 +1,0 @@
-use Rattle.alias_rules.specs.Conflict.{IsKept}
-use Rattle.alias_analysis.proofs.Conflicts.{NoneBefore}
-use Rattle.alias_analysis.proofs.conflict.first_kept.Given as goal
-
-abbrev pub invariant-loop-place : goal.invariant-loop-place
-invariant-loop-place l = NoneBefore l.set (IsKept l.flat l.set) l.place

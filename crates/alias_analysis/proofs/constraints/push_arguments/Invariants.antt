@@ -1,7 +1,0 @@
-use Rattle.std.proofs.Common.{take}
-use Rattle.alias_paths.specs.inner.Pairs.{Adds, IsGiven}
-use Rattle.alias_analysis.proofs.Constraining.{GivesArgument}
-use Rattle.alias_analysis.proofs.constraints.push_arguments.Given as goal
-
-abbrev pub invariant-loop-argument : goal.invariant-loop-argument
-invariant-loop-argument l = Adds l.initial.pairs (IsGiven (take l.argument-index l.arguments) (GivesArgument l.number l.runs)) l.pairs

@@ -1,8 +1,0 @@
-use Rattle.std.proofs.Common.{take}
-use Rattle.alias_analysis.specs.inner.Constraints.{WritesMarked}
-use Rattle.alias_paths.specs.inner.Pairs.{Adds, IsGiven}
-use Rattle.alias_analysis.proofs.Constraining.{GivesTaker}
-use Rattle.alias_analysis.proofs.constraints.push_writers.Given as goal
-
-abbrev pub invariant-loop-variable : goal.invariant-loop-variable
-invariant-loop-variable l = Adds l.initial.pairs (IsGiven (take l.variable-index l.written) (GivesTaker l.marks l.update (WritesMarked l.marks l.update))) l.pairs

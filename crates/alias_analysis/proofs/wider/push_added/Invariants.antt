@@ -1,7 +1,0 @@
-use Rattle.std.proofs.Common.{take}
-use Rattle.alias_paths.specs.inner.Pairs.{Adds, IsGiven}
-use Rattle.alias_analysis.proofs.Widening.{GivesAdded}
-use Rattle.alias_analysis.proofs.wider.push_added.Given as goal
-
-abbrev pub invariant-loop-first : goal.invariant-loop-first
-invariant-loop-first l = Adds l.initial.pairs (IsGiven (take l.first-index l.more) (GivesAdded l.set l.smaller)) l.pairs

@@ -1,0 +1,4 @@
+pub mod Textless
+pub mod Answered
+pub mod Cells
+pub mod Evaluable

@@ -1,0 +1,10 @@
+//! What the value of a body is at scalars and at registers.
+#![tactic(auto)]
+
+pub mod eval;
+pub mod law;
+mod operation;
+mod quick;
+mod read;
+pub mod reader;
+pub mod register;

@@ -1,0 +1,5 @@
+pub mod DecisionTrees
+pub mod Nodes
+pub mod Once
+pub mod Joining
+pub mod Finding

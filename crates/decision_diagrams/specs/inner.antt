@@ -1,0 +1,3 @@
+pub mod DecisionTree
+pub mod Arena
+pub mod Join

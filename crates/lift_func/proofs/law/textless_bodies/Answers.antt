@@ -1,5 +1,0 @@
-use Rattle.lift_func.proofs.Textless.{textless}
-use Rattle.lift_func.proofs.law.textless_bodies.Goals as goal
-
-pub returns : goal.returns
-returns c = λ kinds values tree k all typed none. textless kinds values all typed none

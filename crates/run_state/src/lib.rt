@@ -1,0 +1,4 @@
+//! The state of a run over a trace.
+#![tactic(auto)]
+
+pub mod state;

@@ -1,0 +1,5 @@
+pub mod CountLemmas
+pub mod SourceLemmas
+pub mod TypedLemmas
+pub mod CycleLemmas
+pub mod LawLemmas

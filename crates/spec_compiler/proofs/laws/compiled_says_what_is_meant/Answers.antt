@@ -1,5 +1,0 @@
-use Rattle.spec_compiler.proofs.Meaning.{compiled_says_what_is_meant}
-use Rattle.spec_compiler.proofs.laws.compiled_says_what_is_meant.Goals as goal
-
-pub returns : goal.returns
-returns c = compiled_says_what_is_meant

@@ -1,5 +1,0 @@
-use Rattle.spec_compiler.proofs.Inputs.{inputs_stand_at_their_numbers}
-use Rattle.spec_compiler.proofs.laws.inputs_stand_at_their_numbers.Goals as goal
-
-pub returns : goal.returns
-returns c = inputs_stand_at_their_numbers

@@ -1,5 +1,0 @@
-use Rattle.std.proofs.Common.{◌+◌}
-use Rattle.trigger_diagram.proofs.arena.Arena.+found.Given as goal
-
-abbrev pub decreases-found : goal.decreases-found
-decreases-found l = l.pair.first + l.pair.second

@@ -1,5 +1,0 @@
-use Rattle.trigger_diagram.proofs.Truths.{either_told}
-use Rattle.trigger_diagram.proofs.arena.Arena.either.Goals as goal
-
-pub returns-clause-exact : goal.returns-clause-exact
-returns-clause-exact c = either_told c.args.self.now c.join.new.self c.args.first c.args.second c.join.result c.join.ensures.grows c.requires.first c.requires.second c.join.ensures.exact

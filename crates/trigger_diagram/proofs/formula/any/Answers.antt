@@ -1,0 +1,14 @@
+use Rattle.decision_diagrams.proofs.Nodes.{grows_on, grows_same}
+use Rattle.trigger_diagram.proofs.Truths.{any_next, tells_no}
+use Rattle.trigger_diagram.proofs.formula.any.Goals as goal
+
+pub loop-arg-init : goal.loop-arg-init
+loop-arg-init c = record { grows = grows_same c.args.arena.now; tells = tells_no c.args.arena.now }
+
+pub loop-arg-preserved : goal.loop-arg-preserved
+loop-arg-preserved c = record {
+  grows = grows_on c.args.arena.now c.loop-arg.arena c.either.new.arena c.loop-arg.invariant.grows c.either.ensures.grows;
+  tells =
+      any_next c.args.arena.now c.loop-arg.arena c.either.new.arena c.args.nodes.now c.args.args.now c.loop-arg.arg-index c.arg-item.result c.node_at.result c.loop-arg.node c.in_ok-node.node c.loop-arg-test.true c.arg-item.is c.node_at.ensures c.loop-arg.invariant.grows
+      c.requires.there c.loop-arg.invariant.tells c.in_ok-node.ensures.exact;
+}

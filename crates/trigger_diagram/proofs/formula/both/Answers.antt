@@ -1,0 +1,5 @@
+use Rattle.trigger_diagram.proofs.Truths.{both_told}
+use Rattle.trigger_diagram.proofs.formula.both.Goals as goal
+
+pub returns-clause-exact : goal.returns-clause-exact
+returns-clause-exact c = both_told c.args.arena.now c.join.new.self c.args.first c.args.second c.join.result c.join.ensures.grows c.requires.first c.requires.second c.join.ensures.exact
