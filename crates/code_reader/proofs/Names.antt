@@ -2,14 +2,18 @@
 use Rattle.std.proofs.Common.{◌≡◌, ◌&&◌, ◌||◌, ℕ, zero, suc, Bool, true, false, not, cond, List, [], ◌∷◌, ◌++◌, map, Option, Some, None, String, refl, sym, ap, subst, ◌∙◌, arith}
 use Rattle.std.specs.Prelude.{IsTrue, slice_get}
 use Rattle.std.specs.List.{AllByRecursion, list_any}
+use Rattle.std.specs.BTreeSet.{insert_key}
+use Rattle.std.specs.Cmp.{Equal-is}
+use Rattle.std.specs.Ordering.{is_eq, match_ordering}
+use Rattle.std.specs.declared.cmp.Ordering.{Ordering}
+use Rattle.std.specs.declared.cmp.Ordering.TheVariants.{Less, Equal, Greater}
 use Rattle.std.specs.Str.{bytes_eq}
-use Rattle.std.specs.String.{string_bytes, string_eq}
-use Rattle.std.proofs.Math.Bool.{or-false}
+use Rattle.std.specs.String.{string_bytes, string_cmp}
+use Rattle.std.proofs.Math.Bool.{or-false, or_assoc, or_comm}
 use Rattle.std.proofs.lemmas.Bool.{and_from, and_parts, false≢true, not-true, not_from_false, or_from, or_parts}
-use Rattle.std.proofs.lemmas.List.{map-append}
 use Rattle.std.proofs.lemmas.List.Folds.{list_any-append}
+use Rattle.std.proofs.lemmas.Map.Text.{is_eq-slice_cmp}
 use Rattle.std.proofs.lemmas.Slice.Eq.{bytes_eq-Decides}
-use Rattle.indexmap.specs.IndexSet.{insert_key}
 use Rattle.flat_core.specs.declared.equation.Equation.{Equation}
 use Rattle.flat_core.specs.declared.equation.Output.{Output}
 use Rattle.flat_core.specs.Complete.{HaveDifferentNames}
@@ -18,35 +22,63 @@ use Rattle.trace_reader.specs.Reading.{is_input}
 use Rattle.code_reader.specs.inner.Joined.{HasInputNames}
 use Rattle.code_reader.specs.inner.Names.{Adds, are_apart, input_names, output_names}
 
--- ---- a set of names
-
-has_name : {A : Type 0} (n : List ℕ) (keys : List (String A)) → list_any (bytes_eq n) (map string_bytes keys) ≡ list_any (λ k. bytes_eq n (string_bytes k)) keys
-has_name n [] = refl
-has_name n (k ∷ keys) = ap (λ b. bytes_eq n (string_bytes k) || b) (has_name n keys)
-
-pub not_added : {A : Type 0} (keys : List (String A)) (n : List ℕ) (b : Bool) → b ≡ list_any (λ k. bytes_eq n (string_bytes k)) keys → b ≡ true
-    → Adds (map string_bytes keys) (map string_bytes keys) (Some n ∷ []) false
-not_added keys n b h is more =
-    ap (λ there. not there && are_apart (map string_bytes keys ++ n ∷ []) more) (has_name n keys ∙ sym h ∙ is)
-
-pub added : {A : Type 0} (keys more : List (String A)) (k : String A) (n : List ℕ) (b : Bool) → string_bytes k ≡ n
-    → b ≡ list_any (λ x. bytes_eq n (string_bytes x)) keys
-    → b ≡ false
-    → more ≡ insert_key string_eq keys k
-    → Adds (map string_bytes keys) (map string_bytes more) (Some n ∷ []) true
-added keys more k n b same h is step names =
-    let new : map string_bytes more ≡ map string_bytes keys ++ n ∷ [] =
-    ap (λ l. map string_bytes l)
-    (step ∙ ap (λ c. cond c keys (keys ++ k ∷ [])) (ap (λ m. list_any (λ x. bytes_eq m (string_bytes x)) keys) same ∙ sym h ∙ is))
-    ∙ map-append string_bytes keys (k ∷ [])
-    ∙ ap (λ m. map string_bytes keys ++ m ∷ []) same in
-    ap (λ there. not there && are_apart (map string_bytes keys ++ n ∷ []) names) (has_name n keys ∙ sym h ∙ is)
-    ∙ ap (λ before. are_apart before names) (sym new)
-
 -- ---- one name more
 
 in_more : (m n : List ℕ) (before : List (List ℕ)) → list_any (bytes_eq m) (before ++ n ∷ []) ≡ (list_any (bytes_eq m) before || bytes_eq m n)
 in_more m n before = list_any-append (bytes_eq m) before (n ∷ []) ∙ ap (λ b. list_any (bytes_eq m) before || b) (or-false (bytes_eq m n))
+
+-- ---- a set of names
+
+-- whether all names differ depends on which were before, and not on their order
+same_before : (names : List (Option (List ℕ))) (a b : List (List ℕ)) → ((m : List ℕ) → list_any (bytes_eq m) a ≡ list_any (bytes_eq m) b) → are_apart a names ≡ are_apart b names
+same_before [] a b same = refl
+same_before (None ∷ names) a b same = refl
+same_before (Some n ∷ names) a b same =
+    let rest = same_before names (a ++ n ∷ []) (b ++ n ∷ []) (λ m. in_more m n a ∙ ap (λ there. there || bytes_eq m n) (same m) ∙ sym (in_more m n b)) in
+    (λ k. not (same n k) && rest k)
+
+absorbed : (a b c : Bool) → b ≡ a → ((a || c) || b) ≡ (a || c)
+absorbed a true c same = ap (λ d. (d || c) || true) (sym same) ∙ ap (λ d. d || c) same
+absorbed a false c same = or-false (a || c)
+
+module _ {A : Type 0} where
+  abbrev has : List ℕ → List (String A) → Bool
+  has m keys = list_any (bytes_eq m) (map string_bytes keys)
+
+  key_is : (k x : String A) → bytes_eq (string_bytes k) (string_bytes x) ≡ is_eq (string_cmp k x)
+  key_is k x = sym (is_eq-slice_cmp (string_bytes k) (string_bytes x))
+
+  has_key : (k : String A) (keys : List (String A)) → has (string_bytes k) keys ≡ list_any (λ x. is_eq (string_cmp k x)) keys
+  has_key k [] = refl
+  has_key k (x ∷ keys) = (λ i. key_is k x i || has_key k keys i)
+
+  -- at its place, the key stands among the others
+  module _ (m : List ℕ) (k x : String A) (keys : List (String A)) (rest : has m (insert_key string_cmp keys k) ≡ (has m keys || bytes_eq m (string_bytes k))) where
+    by_order : (o : Ordering) → string_cmp k x ≡ o
+        → has m (match_ordering o (k ∷ x ∷ keys) (x ∷ keys) (x ∷ insert_key string_cmp keys k)) ≡ (has m (x ∷ keys) || bytes_eq m (string_bytes k))
+    by_order Less is = or_comm (bytes_eq m (string_bytes k)) (has m (x ∷ keys))
+    by_order Equal is =
+        let same = (bytes_eq-Decides (string_bytes k) (string_bytes x)).0 (key_is k x ∙ (Equal-is (string_cmp k x)).1 is) in
+        sym (absorbed (bytes_eq m (string_bytes x)) (bytes_eq m (string_bytes k)) (has m keys) (ap (λ n. bytes_eq m n) same))
+    by_order Greater is = ap (λ later. bytes_eq m (string_bytes x) || later) rest ∙ sym (or_assoc (bytes_eq m (string_bytes x)) (has m keys) (bytes_eq m (string_bytes k)))
+
+  has_inserted : (m : List ℕ) (k : String A) (keys : List (String A)) → has m (insert_key string_cmp keys k) ≡ (has m keys || bytes_eq m (string_bytes k))
+  has_inserted m k [] = or-false (bytes_eq m (string_bytes k))
+  has_inserted m k (x ∷ keys) = by_order m k x keys (has_inserted m k keys) (string_cmp k x) refl
+
+pub added : {A : Type 0} (keys more : List (String A)) (k : String A) (n : List ℕ) (new : Bool) → string_bytes k ≡ n
+    → new ≡ not (list_any (λ x. is_eq (string_cmp k x)) keys)
+    → more ≡ insert_key string_cmp keys k
+    → Adds (map string_bytes keys) (map string_bytes more) (Some n ∷ []) new
+added keys more k n new same is step names =
+    let first : not (list_any (bytes_eq n) (map string_bytes keys)) ≡ new =
+    ap (λ m. not (list_any (bytes_eq m) (map string_bytes keys))) (sym same) ∙ ap not (has_key k keys) ∙ sym is in
+    let before = same_before names (map string_bytes keys ++ n ∷ []) (map string_bytes more)
+    (λ m. in_more m n (map string_bytes keys)
+    ∙ ap (λ s. list_any (bytes_eq m) (map string_bytes keys) || bytes_eq m s) (sym same)
+    ∙ sym (has_inserted m k keys)
+    ∙ ap (λ ks. list_any (bytes_eq m) (map string_bytes ks)) (sym step)) in
+    (λ i. first i && before i)
 
 new_parts : (m n : List ℕ) (before : List (List ℕ)) → list_any (bytes_eq m) (before ++ n ∷ []) ≡ false → (list_any (bytes_eq m) before ≡ false) × (m ≡ n → ⊥)
 new_parts m n before new =

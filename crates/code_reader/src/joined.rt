@@ -15,41 +15,46 @@ ghost use Rattle.code_reader.specs.inner.Names.{Adds, are_apart, input_names, ou
 use crate::parts::Parts;
 use code_file::types::is_input;
 use flat_core::equation::{Equation, Output};
-use indexmap::IndexSet;
 use std::alloc::Global;
+use std::collections::BTreeSet;
 use stream_constructs::limits::MOST_UPDATES;
 use tsl_value::ids::EqId;
 use tsl_value::memory::NoMemory;
 use tsl_value::text::Text;
 
-/// Adds a name, unless it is there already.
-fn add_name(names: &mut IndexSet<String>, name: &str) -> Result<bool, NoMemory>
+/// Adds a name, unless it is there already. Names are kept in their order: whoever writes a file could make hashes collide.
+fn add_name(alloc: Global, names: &mut BTreeSet<String>, name: &str) -> Result<bool, NoMemory>
     ensures { IfOk result (Adds (map string_bytes names.old.keys) (map string_bytes names.new.keys) (Some name.now ∷ [])) }
 {
-    if names.contains(name) {
-        return Ok(false);
-    }
-    let name = String::from_str(*names.allocator(), name)?;
-    let _new = names.insert(name)?;
-    Ok(true)
+    let name = String::from_str(alloc, name)?;
+    let is_new = names.insert(name)?;
+    Ok(is_new)
 }
 
 /// Adds the name of an input, which has to have one.
-fn add_input(names: &mut IndexSet<String>, name: &Option<Text>) -> Result<bool, NoMemory>
+fn add_input(
+    alloc: Global,
+    names: &mut BTreeSet<String>,
+    name: &Option<Text>,
+) -> Result<bool, NoMemory>
     ensures { IfOk result (Adds (map string_bytes names.old.keys) (map string_bytes names.new.keys) (name.now ∷ [])) }
 {
     match name {
-        Some(name) => add_name(names, name.as_str()),
+        Some(name) => add_name(alloc, names, name.as_str()),
         None => Ok(false),
     }
 }
 
 /// Adds the name of an equation that is an input.
-fn add_equation(names: &mut IndexSet<String>, equation: &Equation) -> Result<bool, NoMemory>
+fn add_equation(
+    alloc: Global,
+    names: &mut BTreeSet<String>,
+    equation: &Equation,
+) -> Result<bool, NoMemory>
     ensures { IfOk result (Adds (map string_bytes names.old.keys) (map string_bytes names.new.keys) (input_names (equation.now ∷ []))) }
 {
     if is_input(&equation.op) {
-        add_input(names, &equation.name)
+        add_input(alloc, names, &equation.name)
     } else {
         Ok(true)
     }
@@ -59,9 +64,9 @@ fn add_equation(names: &mut IndexSet<String>, equation: &Equation) -> Result<boo
 fn inputs_are_apart(alloc: Global, equations: &[Equation]) -> Result<bool, NoMemory>
     ensures { IfOk result (λ r. r ≡ are_apart [] (input_names equations.now)) }
 {
-    let mut names = IndexSet::new(alloc);
+    let mut names = BTreeSet::new(alloc);
     for equation in equations {
-        if !add_equation(&mut names, equation)? {
+        if !add_equation(alloc, &mut names, equation)? {
             return Ok(false);
         }
     }
@@ -72,9 +77,9 @@ fn inputs_are_apart(alloc: Global, equations: &[Equation]) -> Result<bool, NoMem
 fn outputs_are_apart(alloc: Global, outputs: &[Output]) -> Result<bool, NoMemory>
     ensures { IfOk result (λ r. r ≡ are_apart [] (output_names outputs.now)) }
 {
-    let mut names = IndexSet::new(alloc);
+    let mut names = BTreeSet::new(alloc);
     for output in outputs {
-        if !add_name(&mut names, output.name.as_str())? {
+        if !add_name(alloc, &mut names, output.name.as_str())? {
             return Ok(false);
         }
     }

@@ -1,6 +1,6 @@
 // The parts of code, read.
 
-ghost use Rattle.std.specs.Prelude.{◌≡◌, ◌<◌, ◌^◌, ◌∷◌, ◌++◌, [], ℕ, Some, None, if◌then◌else◌, length, IsTrue, OnOk};
+ghost use Rattle.std.specs.Prelude.{◌≡◌, ◌<◌, ◌∷◌, ◌++◌, [], ℕ, if◌then◌else◌, IsTrue, OnOk};
 ghost use Rattle.flat_core.specs.Members.{is_in};
 ghost use Rattle.code_file.specs.inner.Reading.{count_at, items_at, list_at, number_at, output_at};
 ghost use Rattle.code_reader.specs.Parts.{code_in};
@@ -19,7 +19,8 @@ use translation_order::steps::Steps;
 use tsl_value::ids::EqId;
 use tsl_value::memory::NoMemory;
 
-/// The parts of code, as bytes spell them: whether the equations have the types that they should and the plan is fine, nobody has judged.
+/// The parts of code, as bytes spell them. Nobody has judged whether the equations have the types that they should, and whether the plan
+/// is fine.
 #[derive(Drop)]
 pub struct Parts {
     pub equations: Vec<Equation>,

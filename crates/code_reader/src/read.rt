@@ -40,7 +40,8 @@ fn read_whole(alloc: Global, bytes: &[u8]) -> Result<Parts, CodeFault>
 
 /// The parts of the code that bytes spell.
 ///
-/// `TooLong` comes exactly where there are more than 2^30 bytes, and `WrongForm` where no code of the form of code files has these bytes as its spelling.
+/// `TooLong` comes exactly where there are more than 2^30 bytes, and else `WrongForm` exactly where no code of the form of code files has
+/// these bytes as its spelling.
 pub fn read_form(alloc: Global, bytes: &[u8]) -> Result<Parts, CodeFault>
     ensures form { IfOk result (λ p. IsForm (code_in p)) }
     ensures bare { IfOk result (λ p. bare (code_in p) ≡ code_in p) }
