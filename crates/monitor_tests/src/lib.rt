@@ -1,4 +1,4 @@
-//! A test of the engine's states. There is nothing but a test: the check of a crate's tests proves the whole
+//! Tests of runs that are saved and go on. There is nothing but tests: the check of a crate's tests proves the whole
 //! crate again, and here only they are proved.
 #![tactic(auto)]
 

@@ -1,3 +1,4 @@
-// A monitor that goes on from a state, with ample memory.
+// Runs that are saved and go on, with ample memory.
 
 mod of_states;
+mod samples;
