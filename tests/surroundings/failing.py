@@ -8,6 +8,7 @@ import random
 import re
 import subprocess
 
+from due import SEEN
 from starts import CALL_FAILED, MAY_LACK, NO_MEMORY, PAGE, in_turn, marks
 from talking import fed, in_pieces
 
@@ -17,19 +18,19 @@ def plain(room, check, cases, words):
     ready = []
     for one in cases:
         folder = room.place(one.files)
-        ended = room.start(one.words, folder, one.stdin)
+        ended = room.start_case(one, folder)
         if one.name in MAY_LACK and ended.is_as(b"", 2, b"words not accepted\n"):
             check.lacks("the program does not know its words", one.name)
             continue
         if one.err is None:
             is_right = re.fullmatch(rb"(stats [^\n]+ [0-9]+:[0-9]+ copied [0-9]+\n)+", ended.err) is not None
-            check.judge(is_right and ended.is_as(one.out, one.status, ended.err), ended, one.name)
+            check.judge(is_right and ended.is_as(one.out, one.status, ended.err, one.made), ended, one.name)
             one = one._replace(err=ended.err)
         elif one.out is None:
             check.judge(ended.is_as(ended.out, 0, b"") and ended.out, ended, one.name)
             one = one._replace(out=ended.out)
         else:
-            check.judge(ended.is_as(one.out, one.status, one.err), ended, one.name)
+            check.judge(ended.is_whole(one), ended, one.name)
         ready.append((one, folder))
     return ready
 
@@ -61,19 +62,19 @@ def enough(room, check, name, trial, is_loaded_first):
 
 def with_memory(one, ended):
     """Whether a start that may want memory is right, and whether it had enough."""
-    has_enough = ended.is_as(one.out, one.status, one.err)
+    has_enough = ended.is_whole(one)
     return ended, has_enough or ended.begins(one.out, 6, [NO_MEMORY]), has_enough
 
 
 def memory(room, check, cases, words):
     for one, folder in cases:
-        if one.name not in ("heartbeats", "kept_texts", "code", "gen"):
+        if one.name not in ("heartbeats", "kept_texts", "code", "compile", "exec", "gen"):
             continue
         for option, kind in (("-v", "RLIMIT_AS"), ("-d", "RLIMIT_DATA")):
 
             def trial(pages, one=one, folder=folder, option=option):
                 before = ["sh", "-c", f'ulimit {option} {pages * PAGE // 1024} && exec "$@"', "sh"]
-                return with_memory(one, room.start(one.words, folder, one.stdin, before))
+                return with_memory(one, room.start_case(one, folder, before))
 
             enough(room, check, f"{one.name}, {kind}", trial, False)
 
@@ -86,12 +87,12 @@ def room_left(room, check, cases, words):
 
         def trial(pages, one=one, folder=folder):
             mark, environment = room.with_library(room=pages)
-            ended = room.start(one.words, folder, one.stdin, environment=environment)
+            ended = room.start_case(one, folder, environment=environment)
             if "room" not in marks(mark):
                 check.deviates(f"{one.name}: the limit was not set")
             return with_memory(one, ended)
 
-        if one.name in ("heartbeats", "kept_texts", "check", "flat", "code", "show", "gen", "limit"):
+        if one.name in ("heartbeats", "kept_texts", "check", "flat", "slice", "code", "compile", "exec", "show", "gen", "limit"):
             enough(room, check, one.name, trial, True)
 
 
@@ -101,8 +102,8 @@ def allocations(room, check, cases, words):
         return
     for one, folder in cases:
         mark, environment = room.with_library()
-        ended = room.start(one.words, folder, one.stdin, environment=environment)
-        check.judge(ended.is_as(one.out, one.status, one.err), ended, f"{one.name} with nothing refused")
+        ended = room.start_case(one, folder, environment=environment)
+        check.judge(ended.is_whole(one), ended, f"{one.name} with nothing refused")
         count = marks(mark).get("allocations", 0)
         tried = range(1, count + 1)
         if count > words.allocations:
@@ -114,7 +115,7 @@ def allocations(room, check, cases, words):
         def trial(job, one=one, folder=folder):
             number, all_after = job
             mark, environment = room.with_library(refused=number, all_after=all_after)
-            ended = room.start(one.words, folder, one.stdin, environment=environment)
+            ended = room.start_case(one, folder, environment=environment)
             what = f"{one.name}, allocation {number}{' and all after it' if all_after else ''} refused"
             _, is_right, _ = with_memory(one, ended)
             check.judge(is_right, ended, what)
@@ -152,13 +153,13 @@ MADE, MADE_FOR_FILES = {"write"}, {"openat", "read"}
 
 def right_after(one, ended, ways, line):
     """Whether a start is right after a call failed, which strace shows by this line."""
-    if "whole" in ways and ended.is_as(one.out, one.status, one.err):
+    if "whole" in ways and ended.is_whole(one):
         return True
     if 6 in ways and ended.begins(one.out, 6, [NO_MEMORY]):
         return True
     # Behind a write to the error that failed, nothing more is written there.
     cut_off = [one.err[:size] for size in range(len(one.err))]
-    return 5 in ways and ended.begins(one.out, 5, cut_off if "write(2," in line else [CALL_FAILED])
+    return 5 in ways and ended.begins(one.out, 5, cut_off if "write(2," in line else [CALL_FAILED], one.made)
 
 
 def injected(room, one, folder, name, error, number, piece, is_marked):
@@ -170,7 +171,7 @@ def injected(room, one, folder, name, error, number, piece, is_marked):
         before += ["-E", f"LD_PRELOAD={room.library}", "-E", f"HOSTILE_PIECE={piece}"]
     if is_marked:
         before += ["-E", f"LD_PRELOAD={room.library}", "-E", f"HOSTILE_MARK={mark}"]
-    ended = room.start(one.words, folder, one.stdin, before)
+    ended = room.start_case(one, folder, before)
     marks(mark)
     with open(log, encoding="utf-8", errors="replace") as file:
         lines = file.read().splitlines()
@@ -199,7 +200,7 @@ def calls(room, check, cases, words):
             if is_marked and not room.library:
                 continue
             # The long text of gen in small pieces would be too many calls.
-            small = room.library and error == "EIO" and one.name in ("heartbeats", "refused_line", "code", "fault")
+            small = room.library and error == "EIO" and one.name in ("heartbeats", "refused_line", "code", "compile", "exec", "fault")
             for piece in [0, 16] if small and not is_marked else [0]:
                 own = calls_of_one_name(room, check, one, folder, name, error, ways, is_marked, piece)
                 if not own and (name in MADE or (name in MADE_FOR_FILES and one.files)):
@@ -235,7 +236,7 @@ def calls_by_library(room, check, cases):
 
             def trial(number, one=one, folder=folder, kind=kind):
                 mark, environment = room.with_library(**{kind: number})
-                ended = room.start(one.words, folder, one.stdin, environment=environment)
+                ended = room.start_case(one, folder, environment=environment)
                 if "failed" not in marks(mark):
                     return False
                 # Which of the writes were to the error is not known here.
@@ -251,8 +252,8 @@ def pieces(room, check, cases, words):
     def short(job):
         (one, folder), piece = job
         mark, environment = room.with_library(piece=piece)
-        ended = room.start(one.words, folder, one.stdin, environment=environment)
-        check.judge(ended.is_as(one.out, one.status, one.err), ended, f"{one.name} with reads and writes of at most {piece} bytes")
+        ended = room.start_case(one, folder, environment=environment)
+        check.judge(ended.is_whole(one), ended, f"{one.name} with reads and writes of at most {piece} bytes")
         if "allocations" not in marks(mark):
             check.deviates(f"{one.name}: the library was not loaded")
 
@@ -266,7 +267,7 @@ def pieces(room, check, cases, words):
         dice = random.Random(seed)
         running = room.begin(one.words, folder, stdin=subprocess.PIPE, stdout=subprocess.PIPE, stderr=subprocess.PIPE)
         ended = fed(room, running, in_pieces(dice, one.stdin, dice.choice([1, 2, 5, 30])), 0.0005)
-        check.judge(ended.is_as(one.out, one.status, one.err), ended, f"{one.name} through a pipe in pieces")
+        check.judge(ended.is_whole(one), ended, f"{one.name} through a pipe in pieces")
 
     jobs = [(one, words.seed * 1000 + k) for one in cases if one[0].stdin for k in range(20)]
     list(room.pool.map(piped, jobs))
@@ -278,28 +279,29 @@ def full(room, check, cases, words):
         return
     for one, folder in cases:
         with open("/dev/full", "wb") as device:
-            ended = room.start(one.words, folder, one.stdin, out=device)
+            ended = room.start_case(one, folder, out=device)
             if one.out:
                 check.judge(ended.begins(b"", 5, [CALL_FAILED]), ended, f"{one.name}, the output on a full device")
             else:
-                check.judge(ended.is_as(b"", one.status, one.err), ended, f"{one.name}, the output on a full device")
-            ended = room.start(one.words, folder, one.stdin, err=device)
+                check.judge(ended.is_as(b"", one.status, one.err, one.made), ended, f"{one.name}, the output on a full device")
+            ended = room.start_case(one, folder, err=device)
             wanted = 5 if one.err else one.status
-            check.judge(ended.is_as(one.out, wanted, b""), ended, f"{one.name}, the error on a full device")
-            ended = room.start(one.words, folder, one.stdin, out=device, err=device)
+            check.judge(ended.is_as(one.out, wanted, b"", one.made), ended, f"{one.name}, the error on a full device")
+            ended = room.start_case(one, folder, out=device, err=device)
             wanted = 5 if one.out or one.err else one.status
-            check.judge(ended.is_as(b"", wanted, b""), ended, f"{one.name}, both on a full device")
+            check.judge(ended.is_as(b"", wanted, b"", one.made), ended, f"{one.name}, both on a full device")
         closing = ["sh", "-c", 'exec "$@" >&-', "sh"]
-        ended = room.start(one.words, folder, one.stdin, closing)
+        ended = room.start_case(one, folder, closing)
         wanted = (5, CALL_FAILED) if one.out else (one.status, one.err)
-        check.judge(ended.is_as(b"", *wanted), ended, f"{one.name}, the output closed")
+        check.judge(ended.is_as(b"", *wanted, one.made), ended, f"{one.name}, the output closed")
         closing = ["sh", "-c", 'exec "$@" 2>&-', "sh"]
-        ended = room.start(one.words, folder, one.stdin, closing)
+        ended = room.start_case(one, folder, closing)
         wanted = 5 if one.err else one.status
-        check.judge(ended.is_as(one.out, wanted, b""), ended, f"{one.name}, the error closed")
+        check.judge(ended.is_as(one.out, wanted, b"", one.made), ended, f"{one.name}, the error closed")
         if not one.stdin:
             closing = ["sh", "-c", 'exec "$@" <&-', "sh"]
-            ended = room.start(one.words, folder, one.stdin, closing)
-            check.judge(ended.is_as(one.out, one.status, one.err), ended, f"{one.name}, the input closed")
-
-
+            ended = room.start_case(one, folder, closing)
+            check.judge(ended.is_whole(one), ended, f"{one.name}, the input closed")
+    folder = room.place({"s.tsl": SEEN.encode()})
+    ended = room.start(["compile", "s.tsl", "/dev/full"], folder)
+    check.judge(ended.is_as(b"", 5, CALL_FAILED), ended, "the code on a full device")

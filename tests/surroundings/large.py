@@ -1,6 +1,11 @@
-"""Sources as long as a source may be, that go as deep or as far as one can. None may overflow the stack or take for ever."""
+"""Sources as long as a source may be, that go as deep or as far as one can. None may overflow the stack or take for ever. And files as long as a code
+file may be, and longer."""
+
+import os
 
 LONG = 190000
+# A code file may have so many bytes.
+LONGEST_CODE = 1 << 30
 
 
 def refused(place, text):
@@ -58,3 +63,9 @@ def large(room, check, cases, words):
         check.judge(ended.is_as(*wanted), ended, name, source=source.encode())
 
     list(room.pool.map(trial, large_sources()))
+    for size, text in ((LONGEST_CODE, "wrong form"), (LONGEST_CODE + 1, "too long")):
+        folder = room.place({"c": b""})
+        os.truncate(os.path.join(folder, "c"), size)
+        ended = room.start(["exec", "c", "absent"], folder)
+        check.judge(ended.is_as(b"", 9, f"code: {text}\n".encode()), ended, f"a code file of {size} bytes")
+        os.remove(os.path.join(folder, "c"))

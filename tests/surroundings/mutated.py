@@ -8,6 +8,7 @@ import re
 import shutil
 import subprocess
 
+from plain_code import code_of, code_text, refusal_of, slice_text
 from due import BEATS, DIVIDED, EACH_INSTANT, ECHO, HEARTBEATS, LAST_TWO, LATEST, SEEN, WAITING, WORDS_SEEN, wanted_of
 from starts import Ended, MESSAGES
 from talking import fed, in_pieces, long_heartbeats, random_echo
@@ -104,10 +105,28 @@ def is_text_of(command, text):
     return rows.pop() == b"" and all(re.match(rb"(%[0-9]+ |out |print |keep %|timer %)", row) for row in rows) and bool(rows)
 
 
+def is_sliced(room, folder, ended, name):
+    """Whether a start of `slice` has the part of what `flat` prints, or says that there is none."""
+    flat = room.start(["flat", "s.tsl"], folder)
+    wanted = slice_text(flat.out.decode(), name).encode()
+    return flat.status == 0 and ended.is_as(wanted, *((0, b"") if wanted else (10, f"no output {name}\n".encode())))
+
+
+def is_compiled(room, folder, ended):
+    """Whether a start of `compile` has made a file of the code that `code` prints, or none where the specification is refused."""
+    file = os.path.join(folder, "c")
+    if ended.status == 3:
+        return not os.path.exists(file)
+    with open(file, "rb") as opened:
+        data = opened.read()
+    code = room.start(["code", "s.tsl"], folder)
+    return ended.is_as(b"", 0, b"") and refusal_of(data)[0] == "" and code.is_as(code_text(code_of(data)).encode(), 0, b"")
+
+
 def sources(room, check, cases, words):
     known = known_sources()
     traces = [BEATS, b"1: i = 5\n2: i = 7\n3: i = 5\n", b"0: i = 1\n0: x = 2\n4: i = 0\n9: y = 1\n30:\n", b""]
-    allowed = {"run": {0, 1, 3, 4, 7}, "check": {0, 3}, "flat": {0, 3}, "code": {0, 3}, "show": {0, 2, 3}}
+    allowed = {"run": {0, 1, 3, 4, 7}, "check": {0, 3}, "flat": {0, 3}, "code": {0, 3}, "show": {0, 2, 3}, "slice": {0, 3, 10}, "compile": {0, 3}}
     refused = collections.Counter()
 
     def trial(number):
@@ -115,13 +134,20 @@ def sources(room, check, cases, words):
         source = mutated(dice, dice.choice(known), TOKENS, known)
         trace = dice.choice(traces)
         folder = room.place({"s.tsl": source, "t": trace})
-        command = dice.choice(["run", "run", "check", "flat", "code", "show"])
-        said = [command, "s.tsl"] + (["t", "--instants", "500", "--until", "200"] if command == "run" else [])
+        command = dice.choice(["run", "run", "check", "flat", "code", "show", "slice", "compile"])
+        name = dice.choice(re.findall(r"out ([A-Za-z_]\w*)|as ([A-Za-z_]\w*)", source.decode(errors="replace")) or [("x", "")])
+        behind = {"run": ["t", "--instants", "500", "--until", "200"], "slice": ["".join(name)], "compile": ["c"]}
+        said = [command, "s.tsl", *behind.get(command, [])]
         ended = room.start(said, folder)
         files = {"source": source, "trace": trace}
         what = f"mutated source {number}, {' '.join(said)}"
         is_right = ended.status in allowed[command] and re.fullmatch(MESSAGES[ended.status], ended.err) is not None
-        is_right = is_right and (ended.out == b"" if ended.status in (2, 3) else is_text_of(command, ended.out))
+        if command == "slice" and ended.status != 3:
+            is_right = is_right and is_sliced(room, folder, ended, "".join(name))
+        elif command == "compile":
+            is_right = is_right and is_compiled(room, folder, ended)
+        else:
+            is_right = is_right and (ended.out == b"" if ended.status in (2, 3) else is_text_of(command, ended.out))
         check.judge(is_right, ended, what, f"{command} {ended.label()}", **files)
         if ended.status == 3:
             refused[re.sub(rb"^spec [0-9:]* ?|[:( ].*", b"", ended.err.strip()[len("spec ") :].partition(b" ")[2]).decode()] += 1

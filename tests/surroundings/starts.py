@@ -19,6 +19,9 @@ LONG_TEXTS = [str(k).ljust(2000, "x") for k in range(60)]
 
 PAGE = 4096
 
+SOME_NUMBERS = b"1: i = 5\n2: i = 7\n3: i = 5\n"
+SEEN_PRINTED = b"1: s = false\n2: s = false\n3: s = true\n"
+
 # The one line of each status.
 MESSAGES = {
     0: rb"",
@@ -30,18 +33,26 @@ MESSAGES = {
     5: rb"outside: a call failed\n",
     6: rb"out of memory\n",
     7: rb"limit: [0-9]+ instants before time [0-9]+\n",
+    9: rb"code: (too long|wrong form|wrong types in equation [0-9]+|cycle|plan not fine)\n",
+    10: rb"no output [^\n]+\n",
 }
 CALL_FAILED = b"outside: a call failed\n"
 NO_MEMORY = b"out of memory\n"
 
-# A start of the program: its words, the files that it finds, its standard input, and how it has to end. Where no output is wanted by the
-# case itself, it is the one of the plain start; and so is the error, which then has statistics.
-Case = collections.namedtuple("Case", "name words files stdin out status err")
+# A start of the program: its words, the files that it finds, its standard input, how it has to end, and the files that it has to make. Where no
+# output is wanted by the case itself, it is the one of the plain start; and so is the error, which then has statistics.
+Case = collections.namedtuple("Case", "name words files stdin out status err made")
 
 
-def case(name, words, files=(), stdin=b"", out=None, status=0, err=b""):
+def case(name, words, files=(), stdin=b"", out=None, status=0, err=b"", made=()):
     ready = {file: text if isinstance(text, bytes) else text.encode() for file, text in dict(files).items()}
-    return Case(name, words.split(), ready, stdin, out, status, err)
+    return Case(name, words.split(), ready, stdin, out, status, err, dict(made))
+
+
+def code_of_seen():
+    """The code of SEEN, as the row of tests/run has it."""
+    with open(os.path.join(HERE, "..", "cases", "compile_of_numbers_that_came", "made", "s.code"), "rb") as file:
+        return file.read()
 
 
 def kept_words():
@@ -82,7 +93,13 @@ def all_cases():
              "".join(f"{k}: p = ()\n" for k in range(1, 100)).encode(), 7, b"limit: 100 instants before time 100\n"),
         case("check", "check s.tsl", h),
         case("flat", "flat s.tsl", h),
+        case("slice", "slice s.tsl late", h),
+        case("no_output", "slice s.tsl gap", h, out=b"", status=10, err=b"no output gap\n"),
         case("code", "code s.tsl", h),
+        case("compile", "compile s.tsl c", {**s, "c": "an old file\n"}, out=b"", made={"c": code_of_seen()}),
+        case("exec", "exec c t", {"c": code_of_seen(), "t": SOME_NUMBERS}, out=SEEN_PRINTED),
+        case("exec_through_a_pipe", "exec - t", {"t": SOME_NUMBERS}, code_of_seen(), out=SEEN_PRINTED),
+        case("refused_code", "exec c t", {"c": code_of_seen()[:-1], "t": SOME_NUMBERS}, out=b"", status=9, err=b"code: wrong form\n"),
         case("gen", "gen seen 5000", out="".join(f"{k}: i = {k % 1000}\n" for k in range(1, 5001)).encode()),
         case("bench", "bench seen 50"),
         case("show", "show s.tsl", h, out=b"upd 9:12 in place\n"),
@@ -102,6 +119,8 @@ class Ended:
 
     def __init__(self, code, hung, out, err):
         self.hung, self.out, self.err = hung, out, err
+        # The files that it has made, or made anew.
+        self.made = {}
         self.signal = -code if code is not None and code < 0 else None
         self.status = code if self.signal is None else None
 
@@ -117,15 +136,22 @@ class Ended:
         said = b"loading shared libraries" in self.err or b"cannot be preloaded" in self.err
         return said or self.status in (126, 127) or (self.status is not None and self.status > 128)
 
-    def is_as(self, out, status, err):
-        return self.signal is None and not self.hung and (self.out, self.status, self.err) == (out, status, err)
+    def is_as(self, out, status, err, made=()):
+        is_so = (self.out, self.status, self.err, self.made) == (out, status, err, dict(made))
+        return self.signal is None and not self.hung and is_so
 
-    def begins(self, whole, status, errs):
-        """It ended so, with a beginning of the whole output and one of these messages."""
-        return self.signal is None and not self.hung and self.status == status and whole.startswith(self.out) and self.err in errs
+    def is_whole(self, one):
+        """It ended as the case has to."""
+        return self.is_as(one.out, one.status, one.err, one.made)
+
+    def begins(self, whole, status, errs, made=()):
+        """It ended so, with a beginning of the whole output, beginnings of these files at most, and one of these messages."""
+        begun = all(dict(made).get(name, b"").startswith(data) and name in dict(made) for name, data in self.made.items())
+        return self.signal is None and not self.hung and self.status == status and whole.startswith(self.out) and begun and self.err in errs
 
     def shown(self):
-        return f"{self.label()}, output {shortly(self.out)}, error {shortly(self.err)}"
+        made = "".join(f", {name} {shortly(data)}" for name, data in self.made.items())
+        return f"{self.label()}, output {shortly(self.out)}, error {shortly(self.err)}{made}"
 
 
 def shortly(text):
@@ -187,6 +213,20 @@ class Room:
     def start(self, words, folder, stdin=b"", before=(), environment=None, out=subprocess.PIPE, err=subprocess.PIPE):
         running = self.begin(words, folder, before, environment, stdin=subprocess.PIPE, stdout=out, stderr=err)
         return self.finish(running, stdin)
+
+    def start_case(self, one, folder, before=(), environment=None, **how):
+        """A start of a case. Where files are made it has a folder of its own, and what is made there is read."""
+        if not one.made:
+            return self.start(one.words, folder, one.stdin, before, environment, **how)
+        own = self.place(one.files)
+        ended = self.start(one.words, own, one.stdin, before, environment, **how)
+        for name in os.listdir(own):
+            with open(os.path.join(own, name), "rb") as file:
+                data = file.read()
+            if data != one.files.get(name):
+                ended.made[name] = data
+        shutil.rmtree(own)
+        return ended
 
     def finish(self, running, stdin=None):
         try:

@@ -230,10 +230,12 @@ def cuts(room, check, cases, words):
 
 def lines(room, check, cases, words):
     folder = room.place({"s.tsl": HEARTBEATS.encode(), "e.tsl": ECHO.encode()})
+    ended = room.start(["compile", "s.tsl", "s.code"], folder)
+    check.judge(ended.is_as(b"", 0, b""), ended, "what is run as a code file")
 
     def talks(job):
         specification, file, trace = job
-        talk = Talk(room, ["run", file], folder)
+        talk = Talk(room, ["exec" if file == "s.code" else "run", file], folder)
         written, is_due = b"", True
         for row in trace.splitlines(True):
             if is_due:
@@ -249,6 +251,7 @@ def lines(room, check, cases, words):
     dice = random.Random(words.seed)
     jobs = [(HEARTBEATS, "s.tsl", BEATS)]
     jobs += [(HEARTBEATS, "s.tsl", long_heartbeats(dice, 150)) for _ in range(6)]
+    jobs += [(HEARTBEATS, "s.code", long_heartbeats(dice, 150)) for _ in range(2)]
     jobs += [(ECHO, "e.tsl", random_echo(dice, 120)) for _ in range(6)]
     list(room.pool.map(talks, jobs))
 

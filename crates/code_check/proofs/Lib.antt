@@ -3,3 +3,4 @@ pub mod Whole
 pub mod Refused
 pub mod ReadFaults
 pub mod OneAnswer
+pub mod Taken

@@ -17,25 +17,30 @@ use Rattle.command_words.specs.declared.command.Form.{Form}
 use Rattle.command_words.specs.declared.command.Form.TheVariants as form
 use Rattle.command_words.specs.declared.command.Run.{Run}
 use Rattle.command_words.specs.declared.command.Workload.{Workload}
+use Rattle.command_words.specs.declared.words.Source.{Source}
+use Rattle.command_words.specs.declared.words.Source.TheVariants as source
 use Rattle.command_words.specs.declared.words.Verb.{Verb}
 use Rattle.command_words.specs.declared.words.Verb.TheVariants as verb
 use Rattle.command_words.specs.Words.{IsLimited, IsLimitedRun, IsLimitedCount, until_name, instants_name, bytes_name, strict_flag, stats_flag, Piece, plains, values, uses, fits, read, one_room, run_room, pair_room, number, number_or, run_by, run_of, spec_of, kind_of as trace_kind, counted_by, counted_of, first_verb, asked_by, command_of, is_empty}
 use Rattle.command_words.specs.declared.limits.TheConstants.{MOST_TIME, MOST_LINES}
 
 -- what is asked for by pieces that have room
-pub run_held : (ps : List Piece) (found : Found) → Holds ps found → fits run_room ps ≡ true
-    → option_and_then run_of (if fits run_room ps then Some ps else None) ≡ run_found found (nat_le 1 (length (uses strict_flag ps))) (nat_le 1 (length (uses stats_flag ps)))
-run_held ps found h room = ap (λ b. option_and_then run_of (if b then Some ps else None)) room ∙ same
+pub run_held : (from : Source) (ps : List Piece) (found : Found) → Holds ps found → fits run_room ps ≡ true
+    → option_and_then (run_of from) (if fits run_room ps then Some ps else None) ≡ run_found from found (nat_le 1 (length (uses strict_flag ps))) (nat_le 1 (length (uses stats_flag ps)))
+run_held from ps found h room = ap (λ b. option_and_then (run_of from) (if b then Some ps else None)) room ∙ same
   where
-    same : run_of ps ≡ run_found found (nat_le 1 (length (uses strict_flag ps))) (nat_le 1 (length (uses stats_flag ps)))
+    same : run_of from ps ≡ run_found from found (nat_le 1 (length (uses strict_flag ps))) (nat_le 1 (length (uses stats_flag ps)))
     same = rw (h.first, h.second, h.named until_name, h.named instants_name, h.named bytes_name) refl
 
 pub refused_by : (words : List Text) (v : Verb) → IsRefused words → asked_by v words ≡ None
 refused_by words verb.Run h = rw h.run refl
+refused_by words verb.Exec h = rw h.run refl
 refused_by words verb.Check h = rw h.spec refl
 refused_by words verb.Flat h = rw h.spec refl
 refused_by words verb.Show h = rw h.spec refl
 refused_by words verb.Code h = rw h.spec refl
+refused_by words verb.Slice h = rw h.count refl
+refused_by words verb.Compile h = rw h.count refl
 refused_by words verb.Generate h = rw h.count refl
 refused_by words verb.Bench h = rw h.count refl
 
@@ -78,9 +83,9 @@ or_within : (other least most : ℕ) (word : Option Text) (n : ℕ) → least �
 or_within other least most None n low high e = let is : other ≡ n = ap (λ r. unwrap_or r other) e in (omega arith, omega arith)
 or_within other least most (Some word) n low high e = number_within least most word n e
 
-limited_by : (spec trace until instants bytes : Option Text) (strict stats : Bool) (run : Run) → run_by spec trace until instants bytes strict stats ≡ Some run → IsLimitedRun run
-limited_by spec trace until instants bytes strict stats run e =
-    let named = then_some _ spec run e in
+limited_by : (from : Source) (file trace until instants bytes : Option Text) (strict stats : Bool) (run : Run) → run_by from file trace until instants bytes strict stats ≡ Some run → IsLimitedRun run
+limited_by from file trace until instants bytes strict stats run e =
+    let named = then_some _ file run e in
     let timed = then_some _ (number_or 0 0 MOST_TIME until) run named.2 in
     let counted = then_some _ (number_or MOST_INSTANTS 1 MOST_INSTANTS instants) run timed.2 in
     let measured = map_some _ (number_or MOST_TRACE_BYTES 1 MOST_TRACE_BYTES bytes) run counted.2 in
@@ -97,20 +102,26 @@ counted_limited name count c e =
     let within = number_within 1 MOST_LINES told.0 n.0 told.2 in
     subst (λ (d : Workload × ℕ). IsLimitedCount d.1) n.2 (record { some = within.0; most = within.1 })
 
-run_limited : (ps : List Piece) (r : Run) → run_of ps ≡ Some r → IsLimitedRun r
-run_limited ps r e =
-    limited_by (slice_get (plains ps) 0) (slice_get (plains ps) 1) (slice_get (values until_name ps) 0) (slice_get (values instants_name ps) 0)
+run_limited : (from : Source) (ps : List Piece) (r : Run) → run_of from ps ≡ Some r → IsLimitedRun r
+run_limited from ps r e =
+    limited_by from (slice_get (plains ps) 0) (slice_get (plains ps) 1) (slice_get (values until_name ps) 0) (slice_get (values instants_name ps) 0)
     (slice_get (values bytes_name ps) 0) (nat_le 1 (length (uses strict_flag ps))) (nat_le 1 (length (uses stats_flag ps))) r e
 
 asked_limited : (v : Verb) (words : List Text) (c : Command) → asked_by v words ≡ Some c → IsLimited c
 asked_limited verb.Run words c e =
     let r = map_some command.Run _ c e in
-    let ps = then_some run_of (read run_room words) r.0 r.1 in
-    subst IsLimited r.2 (run_limited ps.0 r.0 ps.2)
+    let ps = then_some (run_of source.Spec) (read run_room words) r.0 r.1 in
+    subst IsLimited r.2 (run_limited source.Spec ps.0 r.0 ps.2)
+asked_limited verb.Exec words c e =
+    let r = map_some command.Run _ c e in
+    let ps = then_some (run_of source.Code) (read run_room words) r.0 r.1 in
+    subst IsLimited r.2 (run_limited source.Code ps.0 r.0 ps.2)
 asked_limited verb.Check words c e = let r = map_some (λ (spec : Text). command.Write spec form.Check) _ c e in subst IsLimited r.2 tt
 asked_limited verb.Flat words c e = let r = map_some (λ (spec : Text). command.Write spec form.Flat) _ c e in subst IsLimited r.2 tt
 asked_limited verb.Show words c e = let r = map_some (λ (spec : Text). command.Write spec form.Show) _ c e in subst IsLimited r.2 tt
 asked_limited verb.Code words c e = let r = map_some (λ (spec : Text). command.Write spec form.Code) _ c e in subst IsLimited r.2 tt
+asked_limited verb.Slice words c e = let r = map_some (λ (p : Text × Text). command.Write p.0 (form.Slice p.1)) _ c e in subst IsLimited r.2 tt
+asked_limited verb.Compile words c e = let r = map_some (λ (p : Text × Text). command.Write p.0 (form.File p.1)) _ c e in subst IsLimited r.2 tt
 asked_limited verb.Generate words c e =
     let r = map_some (λ (d : Workload × ℕ). command.Generate d.1) _ c e in
     let ps = then_some counted_of (read pair_room words) r.0 r.1 in

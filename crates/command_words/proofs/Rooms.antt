@@ -24,25 +24,25 @@ now_some None t e = ap is_some (sym e)
 now_some (Some b) t e = ap is_some (sym e)
 
 module _ (ps : List Piece) (found : Found) (h : Holds ps found) where
-  pub four_words : (fourth : Option (Bor Text)) → option_map (λ b. b.now) fourth ≡ first_value found (codes "fourth") → is_some fourth ≡ true → 4 ≡ length (plains ps)
-  four_words fourth is some =
+  pub four : (fourth : Option (Bor Text)) → option_map (λ b. b.now) fourth ≡ first_value found (codes "fourth") → is_some fourth ≡ true → 4 ≡ length (plains ps)
+  four fourth is some =
       let more = stands_at 3 (plains ps) (now_some fourth _ (is ∙ h.fourth) ∙ some) in
       let few = h.few_words in omega arith
 
-  pub three_words : (third fourth : Option (Bor Text)) → option_map (λ b. b.now) fourth ≡ first_value found (codes "fourth") → is_some fourth ≡ false
+  pub three : (third fourth : Option (Bor Text)) → option_map (λ b. b.now) fourth ≡ first_value found (codes "fourth") → is_some fourth ≡ false
       → option_map (λ b. b.now) third ≡ first_value found (codes "third") → is_some third ≡ true → 3 ≡ length (plains ps)
-  three_words third fourth is none is_too some =
+  three third fourth is none is_too some =
       let few = ends_at 3 (plains ps) (now_some fourth _ (is ∙ h.fourth) ∙ none) in
       let more = stands_at 2 (plains ps) (now_some third _ (is_too ∙ h.third) ∙ some) in omega arith
 
-  pub two_words : (second third : Option (Bor Text)) → option_map (λ b. b.now) third ≡ first_value found (codes "third") → is_some third ≡ false
+  pub two : (second third : Option (Bor Text)) → option_map (λ b. b.now) third ≡ first_value found (codes "third") → is_some third ≡ false
       → option_map (λ b. b.now) second ≡ first_value found (codes "second") → is_some second ≡ true → 2 ≡ length (plains ps)
-  two_words second third is none is_too some =
+  two second third is none is_too some =
       let few = ends_at 2 (plains ps) (now_some third _ (is ∙ h.third) ∙ none) in
       let more = stands_at 1 (plains ps) (now_some second _ (is_too ∙ h.second) ∙ some) in omega arith
 
-  pub one_word : (second : Option (Bor Text)) → option_map (λ b. b.now) second ≡ first_value found (codes "second") → is_some second ≡ false → 1 ≡ length (plains ps)
-  one_word second is none =
+  pub one : (second : Option (Bor Text)) → option_map (λ b. b.now) second ≡ first_value found (codes "second") → is_some second ≡ false → 1 ≡ length (plains ps)
+  one second is none =
       let few = ends_at 1 (plains ps) (now_some second _ (is ∙ h.second) ∙ none) in
       let some = h.some_word in omega arith
 

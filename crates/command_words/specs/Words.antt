@@ -9,10 +9,14 @@ use Rattle.tsl_value.specs.declared.limits.TheConstants.{MOST_INSTANTS, MOST_TRA
 use Rattle.command_words.specs.declared.command.Command.{Command}
 use Rattle.command_words.specs.declared.command.Command.TheVariants as command
 use Rattle.command_words.specs.declared.command.Form.TheVariants as form
+use Rattle.command_words.specs.declared.command.Origin.{Origin}
+use Rattle.command_words.specs.declared.command.Origin.TheVariants as origin
 use Rattle.command_words.specs.declared.command.Run.{Run}
 use Rattle.command_words.specs.declared.command.Workload.{Workload}
 use Rattle.command_words.specs.declared.command.Workload.TheVariants as kind
 use Rattle.command_words.specs.declared.room.Room.{Room}
+use Rattle.command_words.specs.declared.words.Source.{Source}
+use Rattle.command_words.specs.declared.words.Source.TheVariants as source
 use Rattle.command_words.specs.declared.words.Verb.{Verb}
 use Rattle.command_words.specs.declared.words.Verb.TheVariants as verb
 use Rattle.command_words.specs.declared.words.Word.{Word}
@@ -193,19 +197,25 @@ read room words = option_and_then (λ ps. if fits room ps then Some ps else None
 abbrev pub one_room : Room
 one_room = record { least = 1; most = 1; limits = 0; others = 0 }
 
--- `SPEC [TRACE]` with all options and flags
+-- `SPEC [TRACE]` or `FILE [TRACE]` with all options and flags
 abbrev pub run_room : Room
 run_room = record { least = 1; most = 2; limits = 1; others = 1 }
 
--- `KIND N`
+-- `SPEC NAME`, `SPEC FILE` or `KIND N`
 abbrev pub pair_room : Room
 pair_room = record { least = 2; most = 2; limits = 0; others = 0 }
 
+-- the file of a kind that has a name
+abbrev pub origin_of : Source → List ℕ → Origin
+origin_of source.Spec name = origin.Spec name
+origin_of source.Code name = origin.Code name
+
 -- the run of these values. Where the trace has no name it is `-`, the standard input
-abbrev pub run_by : Option (List ℕ) → Option (List ℕ) → Option (List ℕ) → Option (List ℕ) → Option (List ℕ) → Bool → Bool → Option Run
-run_by spec trace until instants bytes strict stats =
-    option_and_then (λ spec. option_and_then (λ until. option_and_then (λ instants. option_map (λ bytes. record {
-      spec = spec;
+abbrev pub run_by :
+    Source → Option (List ℕ) → Option (List ℕ) → Option (List ℕ) → Option (List ℕ) → Option (List ℕ) → Bool → Bool → Option Run
+run_by from file trace until instants bytes strict stats =
+    option_and_then (λ name. option_and_then (λ until. option_and_then (λ instants. option_map (λ bytes. record {
+      origin = origin_of from name;
       trace = unwrap_or trace (codes "-");
       until = until;
       instants = instants;
@@ -216,17 +226,25 @@ run_by spec trace until instants bytes strict stats =
     (number_or MOST_TRACE_BYTES 1 MOST_TRACE_BYTES bytes))
     (number_or MOST_INSTANTS 1 MOST_INSTANTS instants))
     (number_or 0 0 MOST_TIME until))
-    spec
+    file
 
--- the run that pieces ask for; the first plain word is the specification
-abbrev pub run_of : List Piece → Option Run
-run_of ps =
-    run_by (slice_get (plains ps) 0) (slice_get (plains ps) 1) (slice_get (values until_name ps) 0) (slice_get (values instants_name ps) 0)
-    (slice_get (values bytes_name ps) 0) (nat_le 1 (length (uses strict_flag ps))) (nat_le 1 (length (uses stats_flag ps)))
+-- the run that pieces ask for; the first plain word is what runs
+abbrev pub run_of : Source → List Piece → Option Run
+run_of from ps =
+    run_by from (slice_get (plains ps) 0) (slice_get (plains ps) 1) (slice_get (values until_name ps) 0)
+    (slice_get (values instants_name ps) 0) (slice_get (values bytes_name ps) 0)
+    (nat_le 1 (length (uses strict_flag ps))) (nat_le 1 (length (uses stats_flag ps)))
 
 -- the specification that pieces name
 abbrev pub spec_of : List Piece → Option (List ℕ)
 spec_of ps = slice_get (plains ps) 0
+
+-- the two names that pieces have
+abbrev pub two_by : Option (List ℕ) → Option (List ℕ) → Option (List ℕ × List ℕ)
+two_by first second = option_and_then (λ a. option_map (λ b. (a, b)) second) first
+
+abbrev pub two_of : List Piece → Option (List ℕ × List ℕ)
+two_of ps = two_by (slice_get (plains ps) 0) (slice_get (plains ps) 1)
 
 -- the kinds of traces
 abbrev pub kind_of : List ℕ → Option Workload
@@ -245,20 +263,26 @@ counted_of ps = counted_by (slice_get (plains ps) 0) (slice_get (plains ps) 1)
 abbrev pub verb_of : List ℕ → Option Verb
 verb_of word =
     if bytes_eq word (codes "run") then Some verb.Run
+    else (if bytes_eq word (codes "exec") then Some verb.Exec
     else (if bytes_eq word (codes "check") then Some verb.Check
     else (if bytes_eq word (codes "flat") then Some verb.Flat
     else (if bytes_eq word (codes "show") then Some verb.Show
     else (if bytes_eq word (codes "code") then Some verb.Code
+    else (if bytes_eq word (codes "slice") then Some verb.Slice
+    else (if bytes_eq word (codes "compile") then Some verb.Compile
     else (if bytes_eq word (codes "gen") then Some verb.Generate
-    else (if bytes_eq word (codes "bench") then Some verb.Bench else None))))))
+    else (if bytes_eq word (codes "bench") then Some verb.Bench else None)))))))))
 
 -- what is asked for after the name of a command
 abbrev pub asked_by : Verb → List (List ℕ) → Option Command
-asked_by verb.Run words = option_map command.Run (option_and_then run_of (read run_room words))
+asked_by verb.Run words = option_map command.Run (option_and_then (run_of source.Spec) (read run_room words))
+asked_by verb.Exec words = option_map command.Run (option_and_then (run_of source.Code) (read run_room words))
 asked_by verb.Check words = option_map (λ spec. command.Write spec form.Check) (option_and_then spec_of (read one_room words))
 asked_by verb.Flat words = option_map (λ spec. command.Write spec form.Flat) (option_and_then spec_of (read one_room words))
 asked_by verb.Show words = option_map (λ spec. command.Write spec form.Show) (option_and_then spec_of (read one_room words))
 asked_by verb.Code words = option_map (λ spec. command.Write spec form.Code) (option_and_then spec_of (read one_room words))
+asked_by verb.Slice words = option_map (λ p. command.Write p.0 (form.Slice p.1)) (option_and_then two_of (read pair_room words))
+asked_by verb.Compile words = option_map (λ p. command.Write p.0 (form.File p.1)) (option_and_then two_of (read pair_room words))
 asked_by verb.Generate words = option_map (λ c. command.Generate c.1) (option_and_then counted_of (read pair_room words))
 asked_by verb.Bench words = option_map (λ c. command.Bench c.0 c.1) (option_and_then counted_of (read pair_room words))
 

@@ -3,7 +3,7 @@
 use tsl_value::text::Text;
 
 /// What is written of a compiled specification.
-#[derive(Clone, Copy, PartialEq, Eq, Debug)]
+#[derive(Drop)]
 pub enum Form {
     /// How many equations and how many updates run.
     Check,
@@ -13,6 +13,10 @@ pub enum Form {
     Show,
     /// The register code.
     Code,
+    /// What the output of this name can depend on.
+    Slice(Text),
+    /// The bytes of its code, to the file of this name.
+    File(Text),
 }
 
 /// A kind of generated traces.
@@ -22,11 +26,20 @@ pub enum Workload {
     Copy,
 }
 
+/// Where what runs comes from.
+#[derive(Drop)]
+pub enum Origin {
+    /// It is compiled from the specification of this name.
+    Spec(Text),
+    /// It stands in the code file of this name.
+    Code(Text),
+}
+
 /// A run over a trace.
 #[derive(Drop)]
 pub struct Run {
-    /// The name of the specification.
-    pub spec: Text,
+    /// What runs.
+    pub origin: Origin,
     /// The name of the trace; `-`, the standard input, where the words name none.
     pub trace: Text,
     /// Times up to this one are closed at the end of the trace; 0 where the words don't say.

@@ -41,7 +41,7 @@ pub fn run_room() -> Room
     }
 }
 
-/// `KIND N`.
+/// `SPEC NAME`, `SPEC FILE` or `KIND N`.
 pub fn pair_room() -> Room
     ensures { result ≡ pair_room }
 {
@@ -54,7 +54,7 @@ pub fn pair_room() -> Room
 }
 
 /// How many plain words stand.
-#[tactic(auto, using(crate::proofs::Rooms::four_words, crate::proofs::Rooms::three_words, crate::proofs::Rooms::two_words, crate::proofs::Rooms::one_word))]
+#[tactic(auto, using(crate::proofs::Rooms::four, crate::proofs::Rooms::three, crate::proofs::Rooms::two, crate::proofs::Rooms::one))]
 fn count_words(matches: &ArgMatches<'_>) -> u64
     ensures { (ps : List Piece) → Holds ps (found_of matches.now) → result ≡ length (plains ps) }
 {

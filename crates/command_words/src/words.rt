@@ -11,10 +11,10 @@ ghost use Rattle.tsl_value.specs.Literal.{are_digits};
 ghost use Rattle.clap.specs.Words.{app_of, found_of};
 ghost use Rattle.command_words.specs.inner.Reader.{Holds, IsRefused, Matches, run_app, run_found, says};
 ghost use Rattle.command_words.specs.Words.{IsLimited, Piece, asked_by, command_of, counted_of, first_verb, fits, is_empty};
-ghost use Rattle.command_words.specs.Words.{kind_of, number, number_or, one_room, pair_room, plains, run_of, run_room, spec_of, texts_of};
-ghost use Rattle.command_words.specs.Words.{verb_of};
+ghost use Rattle.command_words.specs.Words.{kind_of, number, number_or, one_room, origin_of, pair_room, plains, run_of, run_room, spec_of};
+ghost use Rattle.command_words.specs.Words.{texts_of, two_of, verb_of};
 
-use crate::command::{Command, Form, Run, Workload};
+use crate::command::{Command, Form, Origin, Run, Workload};
 use crate::limits::{MOST_LINES, MOST_TIME};
 use crate::room::{fits, one_room, pair_room, run_room};
 use clap::error::ErrorKind;
@@ -82,9 +82,31 @@ enum Verb {
     Flat,
     Show,
     Code,
+    Slice,
+    Compile,
     Run,
+    Exec,
     Generate,
     Bench,
+}
+
+/// What kind of file runs.
+#[derive(Clone, Copy)]
+enum Source {
+    Spec,
+    Code,
+}
+
+impl Source {
+    /// The file of this kind that has this name.
+    fn origin(self, name: Text) -> Origin
+        ensures { result ≡ origin_of self name }
+    {
+        match self {
+            Source::Spec => Origin::Spec(name),
+            Source::Code => Origin::Code(name),
+        }
+    }
 }
 
 fn are_digits(word: &str) -> bool
@@ -147,14 +169,14 @@ fn number_or(word: Option<&str>, other: u64, least: u64, most: u64) -> Option<u6
     }
 }
 
-/// The run that the values in the matches ask for.
-fn run_found(alloc: Global, matches: &ArgMatches<'_>) -> Result<Option<Run>, NoMemory>
+/// The run of a file of this kind that the values in the matches ask for.
+fn run_found(alloc: Global, from: Source, matches: &ArgMatches<'_>) -> Result<Option<Run>, NoMemory>
     ensures { IfOk result (λ run. (strict stats : Bool)
         → says (found_of matches.now) (codes "strict") strict
         → says (found_of matches.now) (codes "stats") stats
-        → run ≡ run_found (found_of matches.now) strict stats) }
+        → run ≡ run_found from (found_of matches.now) strict stats) }
 {
-    let Some(spec) = matches.get_str("first") else {
+    let Some(file) = matches.get_str("first") else {
         return Ok(None);
     };
     let trace = matches.get_str("second").unwrap_or("-");
@@ -174,7 +196,7 @@ fn run_found(alloc: Global, matches: &ArgMatches<'_>) -> Result<Option<Run>, NoM
         return Ok(None);
     };
     Ok(Some(Run {
-        spec: Text::from_str(alloc, spec)?,
+        origin: from.origin(Text::from_str(alloc, file)?),
         trace: Text::from_str(alloc, trace)?,
         until,
         instants,
@@ -184,15 +206,15 @@ fn run_found(alloc: Global, matches: &ArgMatches<'_>) -> Result<Option<Run>, NoM
     }))
 }
 
-/// The run that the matches ask for.
-fn run_by(alloc: Global, matches: &ArgMatches<'_>) -> Result<Option<Run>, NoMemory>
+/// The run of a file of this kind that the matches ask for.
+fn run_by(alloc: Global, from: Source, matches: &ArgMatches<'_>) -> Result<Option<Run>, NoMemory>
     ensures { IfOk result (λ run. (ps : List Piece) → Holds ps (found_of matches.now)
-        → run ≡ option_and_then run_of (if fits run_room ps then Some ps else None)) }
+        → run ≡ option_and_then (run_of from) (if fits run_room ps then Some ps else None)) }
 {
     if !fits(run_room(), matches) {
         return Ok(None);
     }
-    run_found(alloc, matches)
+    run_found(alloc, from, matches)
 }
 
 /// The specification that the matches name, where nothing else stands.
@@ -230,7 +252,7 @@ fn counted_by(matches: &ArgMatches<'_>) -> Option<(Workload, u64)>
 }
 
 /// What reads the words of all commands: at most four plain words, of which the first is needed, and the options and flags of
-/// `run`, without help. Which of them a command takes its room says.
+/// `run` and `exec`, without help. Which of them a command takes its room says.
 fn reader<'a>(alloc: Global) -> Result<clap::Command<'a>, AllocError>
     ensures { IfOk result (λ command. app_of command ≡ run_app) }
 {
@@ -275,10 +297,13 @@ fn verb_of(word: &str) -> Option<Verb>
 {
     match word {
         "run" => Some(Verb::Run),
+        "exec" => Some(Verb::Exec),
         "check" => Some(Verb::Check),
         "flat" => Some(Verb::Flat),
         "show" => Some(Verb::Show),
         "code" => Some(Verb::Code),
+        "slice" => Some(Verb::Slice),
+        "compile" => Some(Verb::Compile),
         "gen" => Some(Verb::Generate),
         "bench" => Some(Verb::Bench),
         _ => None,
@@ -303,6 +328,23 @@ fn written_by(
     }
 }
 
+/// The two plain words in the matches, where nothing else stands.
+fn two_by(alloc: Global, matches: &ArgMatches<'_>) -> Result<Option<(Text, Text)>, NoMemory>
+    ensures { IfOk result (λ two. (ps : List Piece) → Holds ps (found_of matches.now)
+        → two ≡ option_and_then two_of (if fits pair_room ps then Some ps else None)) }
+{
+    if !fits(pair_room(), matches) {
+        return Ok(None);
+    }
+    match (matches.get_str("first"), matches.get_str("second")) {
+        (Some(first), Some(second)) => Ok(Some((
+            Text::from_str(alloc, first)?,
+            Text::from_str(alloc, second)?,
+        ))),
+        _ => Ok(None),
+    }
+}
+
 /// What the matches after the name of a command ask for.
 fn command_by(
     alloc: Global,
@@ -312,7 +354,11 @@ fn command_by(
     ensures { IfOk result (λ asked. (words : List (List ℕ)) → Matches words matches.now → asked ≡ asked_by verb words) }
 {
     match verb {
-        Verb::Run => match run_by(alloc, matches)? {
+        Verb::Run => match run_by(alloc, Source::Spec, matches)? {
+            Some(run) => Ok(Some(Command::Run(run))),
+            None => Ok(None),
+        },
+        Verb::Exec => match run_by(alloc, Source::Code, matches)? {
             Some(run) => Ok(Some(Command::Run(run))),
             None => Ok(None),
         },
@@ -320,6 +366,20 @@ fn command_by(
         Verb::Flat => written_by(alloc, matches, Form::Flat),
         Verb::Show => written_by(alloc, matches, Form::Show),
         Verb::Code => written_by(alloc, matches, Form::Code),
+        Verb::Slice => match two_by(alloc, matches)? {
+            Some((spec, name)) => Ok(Some(Command::Write {
+                spec,
+                form: Form::Slice(name),
+            })),
+            None => Ok(None),
+        },
+        Verb::Compile => match two_by(alloc, matches)? {
+            Some((spec, file)) => Ok(Some(Command::Write {
+                spec,
+                form: Form::File(file),
+            })),
+            None => Ok(None),
+        },
         Verb::Generate => match counted_by(matches) {
             Some((_, lines)) => Ok(Some(Command::Generate { lines })),
             None => Ok(None),
@@ -357,11 +417,12 @@ fn asked_after(alloc: Global, verb: Verb, words: &[Word]) -> Result<Option<Comma
 impl Words {
     /// What the words ask for; `None` exactly where they are not accepted.
     ///
-    /// The first word is the name of a command. After it stand `SPEC` for `check`, `flat`, `show` and `code`, `SPEC` and at
-    /// most one `TRACE` for `run`, and `KIND N` for `gen` and `bench`, where `KIND` is `seen` or `copy`, none of them empty. For
-    /// `run` the options `--until T`, `--instants N` and `--bytes B`, also written `--name=V`, and the flags `--strict` and
+    /// The first word is the name of a command. After it stand `SPEC` for `check`, `flat`, `show` and `code`, `SPEC NAME` for
+    /// `slice`, `SPEC FILE` for `compile`, `SPEC` and at most one `TRACE` for `run`, `FILE` and at most one `TRACE` for `exec`, and
+    /// `KIND N` for `gen` and `bench`, where `KIND` is `seen` or `copy`, none of them empty. For `run` and `exec` the options
+    /// `--until T`, `--instants N` and `--bytes B`, also written `--name=V`, and the flags `--strict` and
     /// `--stats` may stand anywhere before a word `--`, each at most once. Other words than `-` that begin with `-` are
-    /// refused there, and all words after it are plain. Numbers are one digit or more: T at most `MOST_TIME`, N of `run`
+    /// refused there, and all words after it are plain. Numbers are one digit or more: T at most `MOST_TIME`, N of `run` and `exec`
     /// from 1 to `MOST_INSTANTS`, B from 1 to `MOST_TRACE_BYTES`, N of `gen` and `bench` from 1 to `MOST_LINES`.
     #[tactic(auto, using(crate::proofs::Commands::told_when, crate::proofs::Commands::told_never))]
     pub fn command(&self, alloc: Global) -> Result<Option<Command>, NoMemory>

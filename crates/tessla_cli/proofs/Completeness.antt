@@ -3,21 +3,22 @@ use Rattle.std.proofs.Common.{◌≡◌, ◌⊎◌, inl, inr, ℕ, ◌<◌, ◌-
 use Rattle.command_words.specs.declared.command.Command.{Command}
 use Rattle.command_words.specs.declared.command.Command.TheVariants as command
 use Rattle.command_words.specs.declared.command.Run.{Run}
-use Rattle.compiled_meaning.proofs.Kept.{refused_compiles_none}
 use Rattle.tsl_world.specs.declared.outside.Did.{Did}
-use Rattle.tsl_world.specs.declared.outside.Slot.TheVariants.{Spec, Trace}
+use Rattle.tsl_world.specs.declared.outside.Slot.TheVariants.{Trace}
 use Rattle.tsl_world.specs.Seen.{Seen, seen}
 use Rattle.tessla_cli.specs.declared.ending.Ending.{Ending}
 use Rattle.tessla_cli.specs.declared.ending.Ending.TheVariants as ending
 use Rattle.tessla_cli.specs.Asked.{options_of}
 use Rattle.tessla_cli.specs.Causes.{Cause, RunCause}
 use Rattle.tessla_cli.specs.Completeness.{CanEnd, CanRun, IsComplete, IsWholeTrace}
-use Rattle.tessla_cli.specs.Endings.{ending_of}
+use Rattle.tessla_cli.specs.Endings.{OfEnding, ending_of}
 use Rattle.tessla_cli.specs.Failures.{Failures, SomeFailed}
 use Rattle.tessla_cli.specs.Messages.{status_of}
 use Rattle.tessla_cli.specs.Outcome.{Concludes, Outcome}
 use Rattle.tessla_cli.specs.Outcome.Outcome.{told, outside, memory}
-use Rattle.tessla_cli.proofs.Exact.{causes, meant_by, run_cases, stands_cause}
+use Rattle.tessla_cli.proofs.Exact.{causes, run_cases, stands_cause}
+use Rattle.tessla_cli.proofs.Loading.{of_run_weaker, one_program, runs_unrefused}
+use Rattle.trace_run.specs.Means.{EndsAs, IsUnhindered}
 use Rattle.trace_run.proofs.Causes.{unhindered_done}
 use Rattle.trace_run.proofs.WholeTrace.{unhindered_taken}
 
@@ -25,9 +26,10 @@ module _ (x : Seen) where
   -- a run against which nothing stands has no other cause
   run_done : (r : Run) → CanEnd (Some (command.Run r)) x → (by : Ending) → RunCause r x by → status_of by ≡ 0
   run_done r can by cause = elim (run_cases x r by cause) [
-    | inl (fault, is, refused) ↦ absurd (refused_compiles_none (x.taken Spec) fault can.items can.system refused can.compiled)
-    | inr watch ↦ ap status_of
-        (watch.holds.by_is ∙ ap ending_of (unhindered_done can.items can.system (options_of r) (x.taken Trace) (x.ended Trace) can.holds watch.holds.how (meant_by x r _ by can watch)))
+    | inl refused ↦ absurd (runs_unrefused x r.origin (λ p. IsUnhindered p (options_of r) (x.taken Trace) (x.ended Trace)) by can refused)
+    | inr watch ↦
+        let one = one_program x r.origin (λ p. IsUnhindered p (options_of r) (x.taken Trace) (x.ended Trace)) (λ p. OfEnding by (λ how. EndsAs p (options_of r) (x.taken Trace) (x.ended Trace) how)) can watch in
+        ap status_of (one.other.by_is ∙ ap ending_of (unhindered_done (options_of r) (x.taken Trace) (x.ended Trace) one.program one.one one.other.how one.other.holds))
   ]
 
   can_done : (c : Option Command) → CanEnd c x → (by : Ending) → Cause c x by → status_of by ≡ 0
@@ -41,12 +43,9 @@ module _ (x : Seen) where
   taken_can : (c : Option Command) (whole : List ℕ) → IsWholeTrace x whole → CanRun c x whole → CanEnd c x
   taken_can None whole w can = absurd can
   taken_can (Some (command.Write spec f)) whole w can = absurd can
-  taken_can (Some (command.Run r)) whole w can = record {
-    items = can.items;
-    system = can.system;
-    compiled = can.compiled;
-    holds = unhindered_taken (x.taken Spec) can.items can.system (options_of r) can.compiled (x.taken Trace) whole (x.ended Trace) w.begins w.ends can.holds;
-  }
+  taken_can (Some (command.Run r)) whole w can =
+      of_run_weaker x r.origin (λ p. IsUnhindered p (options_of r) whole true) (λ p. IsUnhindered p (options_of r) (x.taken Trace) (x.ended Trace))
+      (λ p can_run u. unhindered_taken p can_run (options_of r) (x.taken Trace) whole (x.ended Trace) w.begins w.ends u) can
   taken_can (Some (command.Generate n)) whole w can = absurd can
   taken_can (Some (command.Bench kind n)) whole w can = absurd can
 

@@ -1,4 +1,4 @@
--- A text that is printed, as far as it comes.
+-- A text that is written, as far as it comes.
 use Rattle.std.proofs.Common.{ℕ, List, [], Result, Ok, refl}
 use Rattle.alias_rules.specs.Fine.{IsTakenPlan}
 use Rattle.register_code.specs.Code.{Code}
@@ -10,7 +10,7 @@ use Rattle.tsl_world.proofs.Places.{at_none}
 use Rattle.command_words.specs.declared.command.Form.{Form}
 use Rattle.trace_run.specs.Effects.{Gives}
 use Rattle.tessla_cli.specs.Printed.{HasText, IsTextOf}
-use Rattle.tessla_cli.specs.inner.RunPhases.{Prints, HasPrinted, PrintsText, HasPrintedText}
+use Rattle.tessla_cli.specs.inner.RunPhases.{HasPrinted, HasPrintedText, HasPut, Prints, PrintsText, Puts}
 
 -- any text
 module _ (P : List ℕ → Type 0) (text : List ℕ) (is : P text) where
@@ -35,8 +35,8 @@ module _ (source : List ℕ) (f : Form) (c : Code) (taken : IsTakenPlan c.system
     is = is;
   }
 
-  pub prints_some : {E : Type 0} (result : Result (Unit {0}) E) (part : List Did) → Gives Out text result part → Prints source f part
-  prints_some result part g = text_some (IsTextOf source f) text is_text result part g
+  pub prints_some : (part : List Did) → Puts text f part → Prints source f part
+  prints_some part puts = record { text = text; is = is_text; puts = puts }
 
-  pub prints_all : {E : Type 0} (part : List Did) → Gives {E = E} Out text (Ok tt) part → HasPrinted source f part
-  prints_all part g = text_all (IsTextOf source f) text is_text part g
+  pub prints_all : (part : List Did) → HasPut text f part → HasPrinted source f part
+  prints_all part puts = record { text = text; is = is_text; puts = puts }

@@ -17,7 +17,7 @@ use Rattle.trace_run.proofs.Watching.{not_zero}
 use Rattle.tsl_world.proofs.Places.{at_none, at_one, stops_one}
 use Rattle.trace_reader.specs.declared.limits.TheConstants.{MOST_PIECE_BYTES}
 
-same_slot_itself : (from : Slot) → same_slot from from ≡ true
+pub same_slot_itself : (from : Slot) → same_slot from from ≡ true
 same_slot_itself slot.Spec = refl
 same_slot_itself slot.Trace = refl
 same_slot_itself slot.State = refl

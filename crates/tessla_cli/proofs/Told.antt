@@ -1,17 +1,13 @@
 -- What a run shows and how it ends, after the line that tells it.
-use Rattle.std.proofs.Common.{◌≡◌, ◌≢◌, ◌⊎◌, inl, inr, ℕ, Bool, true, false, List, [], ◌∷◌, ◌++◌, refl, sym, ◌∙◌, ap, subst, arith, Option, Some, None}
+use Rattle.std.proofs.Common.{◌≡◌, ◌≢◌, ◌⊎◌, inl, inr, ℕ, Bool, true, false, List, [], ◌∷◌, ◌++◌, refl, sym, ◌∙◌, ap, subst, arith, Option, Some, None, IsTrue}
 use Rattle.std.proofs.lemmas.Bool.{true≢false}
 use Rattle.std.proofs.lemmas.List.{append-nil}
-use Rattle.alias_rules.specs.Fine.{IsTakenPlan}
 use Rattle.command_words.specs.declared.command.Command.{Command}
 use Rattle.command_words.specs.declared.command.Command.TheVariants as command
 use Rattle.command_words.specs.declared.command.Form.{Form}
-use Rattle.command_words.specs.declared.command.Run.{Run}
 use Rattle.command_words.specs.declared.command.Workload.{Workload}
-use Rattle.flat_core.specs.System.{System}
-use Rattle.monitor_run.specs.inner.State as engine
 use Rattle.sample_trace.specs.Trace.{trace_text}
-use Rattle.syntax_tree.specs.Tree as tree
+use Rattle.code_file.specs.declared.fault.CodeFault.{CodeFault}
 use Rattle.source_rules.specs.declared.fault.SpecFault.{SpecFault}
 use Rattle.compiled_meaning.specs.Compiled.{Compiles, IsRefusedBy}
 use Rattle.trace_monitor.specs.declared.ending.RunEnding.{RunEnding}
@@ -21,36 +17,43 @@ use Rattle.tsl_world.specs.declared.outside.Did.{Did}
 use Rattle.tsl_world.specs.declared.outside.Did.TheVariants.{Opened}
 use Rattle.tsl_world.specs.declared.outside.Slot.{Slot}
 use Rattle.tsl_world.specs.declared.outside.Slot.TheVariants.{Spec, Trace}
+use Rattle.tsl_world.specs.declared.outside.Channel.{Channel}
+use Rattle.tsl_world.specs.declared.outside.Channel.TheVariants as channel
 use Rattle.tsl_world.specs.declared.outside.Channel.TheVariants.{Out, Err}
-use Rattle.tsl_world.specs.Journal.{given, taken, ended, openings, AtEntries, IsAny, IsDone, IsNoFailedGift, IsNoRead, IsNoGift, IsOpening, IsTransfer, IsGift, Each, StopsAtFailure}
-use Rattle.tsl_world.specs.Seen.{Seen, seen}
+use Rattle.tsl_world.specs.Journal.{given, taken, ended, openings, creations, same_channel, AtEntries, IsAny, IsCreation, IsDone, IsNoFailedGift, IsNoRead, IsNoGift, IsOpening, IsTransfer, IsGift, Each, StopsAtFailure}
+use Rattle.tsl_world.specs.Runs.{Grows}
+use Rattle.tsl_world.specs.Seen.{Seen, given_aside, seen}
 use Rattle.tsl_world.proofs.Journals.{given-append, Each-append, each_more}
-use Rattle.tsl_world.proofs.Untouched.{gift_elsewhere, gift_transfer, gifts_read_none, gifts_transfer, gifts_within, done_no_failed_gift, no_failed_gift, not_gift, same_channel_back, transfer_opens_none, given_after, given_none, openings_before, creations_before, openings_none}
+use Rattle.tsl_world.proofs.Untouched.{gift_elsewhere, gift_transfer, gifts_read_none, gifts_transfer, gifts_within, done_no_failed_gift, no_failed_gift, not_gift, same_channel_back, transfer_makes_none, transfer_opens_none, given_after, given_none, openings_before, creations_before, creations_none, openings_none}
+use Rattle.tsl_world.proofs.Runs.{grows_weaker}
 use Rattle.tsl_world.proofs.Telling.{seen_told}
+use Rattle.trace_run.proofs.Grown.{grows_both}
 use Rattle.tsl_world.proofs.Places.{at_each_join, at_fewer, at_join, at_more, at_not, at_weaker}
 use Rattle.tessla_cli.specs.declared.ended.Ended.{Ended}
 use Rattle.tessla_cli.specs.declared.ending.Ending.{Ending}
 use Rattle.tessla_cli.specs.declared.ending.Ending.TheVariants as ending
 use Rattle.trace_run.specs.declared.broken.Broken.{Broken}
 use Rattle.trace_run.specs.declared.broken.Broken.TheVariants as broken
-use Rattle.trace_run.specs.declared.run.Ran.{Ran}
 use Rattle.tessla_cli.specs.Alone.{BenchStops, IsTallyText}
-use Rattle.tessla_cli.specs.Asked.{asks_statistics, for_asked, options_of, program_files}
+use Rattle.tessla_cli.specs.Asked.{asks_statistics, for_asked, made_files, options_of, program_files}
 use Rattle.tessla_cli.specs.Causes.{Cause, Stands}
-use Rattle.tessla_cli.specs.Conduct.{IsAllWhole, IsPartlyDue, StopsAtFailures}
-use Rattle.tessla_cli.specs.Endings.{OfEnding, ending_of}
+use Rattle.tessla_cli.specs.Conduct.{IsAllWhole, IsPartlyDue, MakesNothing, MayMake, StopsAtFailures}
+use Rattle.tessla_cli.specs.Endings.{ending_of}
 use Rattle.tessla_cli.specs.Failures.{Failures, NoneFailed, CallFailed, WriteFailed, SomeFailed}
 use Rattle.tessla_cli.specs.Headline.{OfSource}
-use Rattle.trace_run.specs.Meant.{WatchEndsAsMeant}
 use Rattle.tessla_cli.specs.Messages.{broken_line, status_of}
+use Rattle.tessla_cli.specs.Printed.{RefusesForm, channel_of}
 use Rattle.tessla_cli.specs.Outcome.{Ends, EndsWith, IsToldBefore, unasked, refused_before, counted, TellsFailure, told_failure, untold_ending, untold_memory, untold_failure, Outcome, told, outside, memory, ShowsAlways, Concludes, TellsBroken, all_of_broken, some_of_broken, TellsEnding, all_of_ending, some_of_ending}
-use Rattle.tessla_cli.specs.Stages.{AreWholeBefore, HasWhole, at_program, at_work, opened_at, stage_of}
+use Rattle.tessla_cli.specs.Stages.{AreWhole, AreWholeBefore, HasWhole, at_program, at_work, is_silent, opened_at, stage_of}
 use Rattle.tessla_cli.specs.Unseen.{NoUpdateIsSeen}
-use Rattle.trace_run.specs.Effects.{SystemEnds, Watched, WatchEnds, Writes, ends}
-use Rattle.tessla_cli.specs.inner.RunPhases.{ReadsSpec, GivesSource, Prints, SourceEnds, spec_refused, compiled_ends, HasMonitored, HasPrinted, HasWritten, whole_ends, AloneEnds, AloneIsDone, written, stopped, DoesAll, DoesAllAsked, IsToldAfter, WordsRefused}
-use Rattle.trace_run.specs.Statistics.{AreStatistics, counted_text}
+use Rattle.trace_run.specs.Effects.{Writes}
+use Rattle.tessla_cli.specs.inner.RunPhases.{ReadsSpec, GivesSource, SourceEnds, spec_refused, compiled_ends, HasPrinted, HasWritten, IsAgainst, IsWritten, all_written, none_written, whole_ends, AloneEnds, AloneIsDone, written, stopped, DoesAll, DoesAllAsked, IsToldAfter, WordsRefused}
 use Rattle.tessla_cli.proofs.Failing.{call_and_none, call_and_write, none_and_write}
-use Rattle.tessla_cli.proofs.Facts.{Shows, all_whole, each_work, ends_after, front_no_gift, front_openings, of_source, of_text, statistics_after, taken_now, whole_now}
+use Rattle.tessla_cli.proofs.Facts.{of_text}
+use Rattle.tessla_cli.proofs.Fronts.{Shows, front_creations, front_no_gift, front_openings, nothing_given, spec_file, whole_now}
+use Rattle.tessla_cli.proofs.Refused.{IsToldBy, done_speaks, refused_stands, told_by_line}
+use Rattle.tessla_cli.proofs.RunStands.{trace_before, trace_stands}
+use Rattle.tessla_cli.proofs.Writing.{given_there, has_put_puts, put_facts, put_made, put_whole, refusals}
 
 -- a run that ends before the end of its trace is not done
 early_not_done : (how : RunEnding) → how ≢ run.Done → ending.Done ≡ ending_of how → ⊥
@@ -74,124 +77,54 @@ pub stops_not_words : (kind : Workload) (n : ℕ) → BenchStops kind n ending.W
 stops_not_words kind n (inl (fault, refused, is)) = absurd (let e : ending.Words ≡ ending.Spec fault = is in cc)
 stops_not_words kind n (inr (how, ran, is)) = run_not_words how is
 
-never : {A : Type 0} → false ≡ true → A
-never is = absurd (true≢false (sym is))
+-- A text that is written, or something stands against it.
+module _ (name : List ℕ) (f : Form) (reads : List Did) (r : ReadsSpec reads) (source : List ℕ) (g : GivesSource source reads) where
+  abbrev write : Command
+  write = command.Write name f
 
--- All that tells an ending: what is told before its line, and then the line.
-pub record IsToldBy (c : Option Command) (by : Ended) (x : Seen) : Type 0 where
-  pub before : List ℕ
-  pub is_before : IsToldBefore c by.ending x before
-  pub text_is : IsToldAfter before by
-
--- the line alone, where no statistics are asked for
-told_by_line : (c : Option Command) (by : Ended) (x : Seen) → asks_statistics c ≡ false → IsToldAfter [] by → IsToldBy c by x
-told_by_line c by x not_asked line = record { before = []; is_before = unasked not_asked refl; text_is = line }
-
--- A specification that is refused.
-module _ (c : Command) (name : List ℕ) (files : program_files c ≡ (Spec, name) ∷ []) (cause : (fault : SpecFault) (x : Seen) → IsRefusedBy (x.taken Spec) fault → Cause (Some c) x (ending.Spec fault))
-    (reads : List Did) (r : ReadsSpec reads) (source : List ℕ) (g : GivesSource source reads) where
-  refused_front : (fault : SpecFault) → IsRefusedBy source fault → Stands (Some c) (ending.Spec fault) (seen (Opened Spec name ∷ (reads ++ [])))
-  refused_front fault refused = let part = Opened Spec name ∷ (reads ++ []) in record {
-    holds = cause fault (seen part) (subst (λ (l : List ℕ). IsRefusedBy l fault) (sym (taken_now name reads r source g [] tt)) refused);
-    opens = front_openings name reads r [] ∙ sym files;
-    whole = all_whole name reads r c files (seen part) (whole_now name reads r source g [] tt);
-    silent = λ is. given_none Out part (Each-append (IsNoGift Out) (Opened Spec name ∷ reads) [] (front_no_gift name reads r Out) tt);
-  }
-
-  refused_stands : (by : Ended) (fault : SpecFault) (rest : List Did) → by.ending ≡ ending.Spec fault → IsRefusedBy source fault → rest ≡ []
-      → Stands (Some c) by.ending (seen (Opened Spec name ∷ (reads ++ rest)))
-  refused_stands by fault rest same refused none =
-      subst (λ (b : Ending). Stands (Some c) b (seen (Opened Spec name ∷ (reads ++ rest)))) (sym same)
-      (subst (λ (l : List Did). Stands (Some c) (ending.Spec fault) (seen (Opened Spec name ∷ (reads ++ l)))) (sym none) (refused_front fault refused))
-
--- A text that is written.
-module _ (name : List ℕ) (f : Form) where
-  text_stands : (reads : List Did) (r : ReadsSpec reads) (source : List ℕ) (g : GivesSource source reads) (rest : List Did) → HasPrinted source f rest
-      → Stands (Some (command.Write name f)) ending.Done (seen (Opened Spec name ∷ (reads ++ rest)))
-  text_stands reads r source g rest p =
+  text_stands : (rest : List Did) → HasPrinted source f rest → Stands (Some write) ending.Done (seen (Opened Spec name ∷ (reads ++ rest)))
+  text_stands rest p =
       let part = Opened Spec name ∷ (reads ++ rest) in
-      let begins : Begins (given Out rest) p.text = record { rest = []; is = sym p.whole ∙ sym (append-nil (given Out rest)) } in
-      let given_is : given Out part ≡ p.text = given_after Out (Opened Spec name ∷ reads) rest (front_no_gift name reads r Out) ∙ p.whole in
-      let prints : Prints source f rest = record { text = p.text; is = p.is; writes = p.writes; some = begins } in
+      let facts = put_facts f name p.text rest (has_put_puts f p.text rest p.puts) in
+      let given_is : given_aside (channel_of f) part ≡ p.text =
+      given_there f part ∙ given_after (channel_of f) (Opened Spec name ∷ reads) rest (front_no_gift spec_file name reads r (channel_of f)) ∙ put_whole f p.text rest p.puts in
       record {
-        holds = (refl, of_text name f reads r source g rest prints (λ text. given Out part ≡ text) given_is);
-        opens = front_openings name reads r rest ∙ ap (λ (l : List (Slot × List ℕ)). (Spec, name) ∷ l) (openings_none rest (gifts_transfer Out rest p.writes.gifts));
-        whole = (whole_now name reads r source g rest (gifts_read_none Out Spec rest p.writes.gifts), tt);
-        silent = λ is. never is;
+        holds = (refl, of_text name f reads r source g rest (facts.unread Spec) p.text p.is (λ text. given_aside (channel_of f) part ≡ text) given_is);
+        opens = front_openings spec_file name reads r rest ∙ ap (λ (l : List (Slot × List ℕ)). (Spec, name) ∷ l) facts.opens;
+        whole = (whole_now spec_file name reads r source g rest (facts.unread Spec), tt);
+        makes = front_creations spec_file name reads r rest ∙ put_made f name p.text rest p.puts;
+        silent = λ to is. done_speaks to is;
       }
 
-  written_stands : (reads : List Did) (r : ReadsSpec reads) (source : List ℕ) (g : GivesSource source reads) (by : Ended) (rest : List Did)
-      → SourceEnds source (HasWritten source f by) by rest → Stands (Some (command.Write name f)) by.ending (seen (Opened Spec name ∷ (reads ++ rest)))
-  written_stands reads r source g by rest (spec_refused {fault} same nothing refused none) =
-      refused_stands (command.Write name f) name refl (λ fault x is. is) reads r source g by fault rest same refused none
-  written_stands reads r source g by rest (compiled_ends h) =
-      subst (λ (b : Ending). Stands (Some (command.Write name f)) b (seen (Opened Spec name ∷ (reads ++ rest)))) (sym h.ending) (text_stands reads r source g rest h.printed)
+  -- what stands against a text is the cause of an ending, before the work
+  against_here : (by : Ending) → IsAgainst source f by → (x : Seen) → x.taken Spec ≡ source → OfSource x (λ items s. RefusesForm f s by)
+  against_here by a x same = record { items = a.items; system = a.system; compiled = subst (λ (l : List ℕ). Compiles l a.items a.system) (sym same) a.compiles; holds = a.refuses }
 
-  written_before : (x : Seen) (source : List ℕ) (by : Ended) (rest : List Did) → SourceEnds source (HasWritten source f by) by rest
-      → IsToldBy (Some (command.Write name f)) by x
-  written_before x source by rest (spec_refused same line refused none) = told_by_line (Some (command.Write name f)) by x refl line
-  written_before x source by rest (compiled_ends h) = told_by_line (Some (command.Write name f)) by x refl h.told
+  against_cause : (by : Ending) → IsAgainst source f by → (x : Seen) → x.taken Spec ≡ source → Cause (Some write) x by
+  against_cause by a x same = elim (refusals f a.system by a.refuses) [
+    | inl (k, is) ↦ subst (Cause (Some write) x) (sym is) (against_here (ending.NoOutput k) (subst (IsAgainst source f) is a) x same)
+    | inr (fault, is) ↦ subst (Cause (Some write) x) (sym is) (against_here (ending.Code fault) (subst (IsAgainst source f) is a) x same)
+  ]
 
--- A run over a trace.
-module _ (r : Run) where
-  abbrev HasEnded : Ending → Seen → Type 0
-  HasEnded by x = OfSource x (λ items s. OfEnding by (λ how. WatchEndsAsMeant items s (options_of r) how x))
+  against_early : (by : Ending) → IsAgainst source f by → stage_of by ≡ at_program
+  against_early by a = elim (refusals f a.system by a.refuses) [
+    | inl (k, is) ↦ ap stage_of is
+    | inr (fault, is) ↦ ap stage_of is
+  ]
 
-  run_stands : (how : RunEnding) (x : Seen) → HasEnded (ending_of how) x → x.opened ≡ (Spec, r.spec) ∷ (Trace, r.trace) ∷ [] → HasWhole Spec x
-      → Stands (Some (command.Run r)) (ending_of how) x
-  run_stands run.Done x holds opens whole = record { holds = holds; opens = opens; whole = (whole, tt); silent = λ is. never is }
-  run_stands (run.Trace fault) x holds opens whole = record { holds = holds; opens = opens; whole = (whole, tt); silent = λ is. never is }
-  run_stands (run.Fault t k p) x holds opens whole = record { holds = holds; opens = opens; whole = (whole, tt); silent = λ is. never is }
-  run_stands (run.Limit n t) x holds opens whole = record { holds = holds; opens = opens; whole = (whole, tt); silent = λ is. never is }
+  done_stands : (by : Ending) (rest : List Did) → IsWritten source f by rest → Stands (Some write) by (seen (Opened Spec name ∷ (reads ++ rest)))
+  done_stands by rest (all_written done p) = subst (λ (b : Ending). Stands (Some write) b (seen (Opened Spec name ∷ (reads ++ rest)))) (sym done) (text_stands rest p)
+  done_stands by rest (none_written a none) = refused_stands spec_file write name refl reads r source g by (against_early by a) (against_cause by a) rest none
 
-  module _ (reads : List Did) (read : ReadsSpec reads) (source : List ℕ) (g : GivesSource source reads) (items : List tree.Item) (s : System) (c : Compiles source items s) (ran : Ran) (by : Ended) (by_is : by.ending ≡ ending_of ran.ending) where
-    abbrev all : List Did → List Did
-    all rest = Opened Spec r.spec ∷ (reads ++ rest)
+  written_stands : (by : Ended) (rest : List Did) → SourceEnds source (HasWritten source f by) by rest → Stands (Some write) by.ending (seen (Opened Spec name ∷ (reads ++ rest)))
+  written_stands by rest (spec_refused {fault} same nothing refused none) =
+      subst (λ (b : Ending). Stands (Some write) b (seen (Opened Spec name ∷ (reads ++ rest)))) (sym same)
+      (refused_stands spec_file write name refl reads r source g (ending.Spec fault) refl (λ x taken_is. subst (λ (l : List ℕ). IsRefusedBy l fault) (sym taken_is) refused) rest none)
+  written_stands by rest (compiled_ends h) = done_stands by.ending rest h.done
 
-    no_spec_in : (part : List Did) → Watched s (options_of r) part → Each (IsNoRead Spec) (Opened Trace r.trace ∷ part)
-    no_spec_in part w = (tt, each_work (IsNoRead Spec) (λ bytes short. refl) (λ bytes. tt) refl tt part w.work)
-
-    monitored_stands : (rest : List Did) → SystemEnds r.trace s (options_of r) r.stats ran rest → Stands (Some (command.Run r)) by.ending (seen (Opened Spec r.spec ∷ (reads ++ rest)))
-    monitored_stands _ (ends state part taken_plan w e told_is) =
-        let rest = Opened Trace r.trace ∷ part in
-        let x = seen (all rest) in
-        let moves = each_work IsTransfer (λ bytes short. tt) (λ bytes. tt) tt tt part w.work in
-        subst (λ (b : Ending). Stands (Some (command.Run r)) b x) (sym by_is)
-        (run_stands ran.ending x
-        (of_source r reads read source g items s c rest (λ items s. OfEnding (ending_of ran.ending) (λ how. WatchEndsAsMeant items s (options_of r) how x)) (no_spec_in part w)
-        record { how = ran.ending; by_is = refl; holds = ends_after r reads read source g items s c state ran.ending part e })
-        (front_openings r.spec reads read rest ∙ ap (λ (l : List (Slot × List ℕ)). (Spec, r.spec) ∷ ((Trace, r.trace) ∷ l)) (openings_none part moves))
-        (whole_now r.spec reads read source g rest (no_spec_in part w)))
-
-    -- what is told of the updates, with statistics or without
-    monitored_before : (stats : Bool) → r.stats ≡ stats → (rest : List Did) → SystemEnds r.trace s (options_of r) r.stats ran rest
-        → IsToldBefore (Some (command.Run r)) by.ending (seen (Opened Spec r.spec ∷ (reads ++ rest))) ran.statistics
-    monitored_before false is _ (ends state part taken_plan w e told_is) = unasked is (told_is ∙ ap (counted_text s state) is)
-    monitored_before true is _ (ends state part taken_plan w e told_is) =
-        let rest = Opened Trace r.trace ∷ part in
-        let x = seen (all rest) in
-        counted r refl is
-        (of_source r reads read source g items s c rest (λ items s. OfEnding by.ending (λ how. AreStatistics s (options_of r) (x.taken Trace) (x.ended Trace) how ran.statistics)) (no_spec_in part w)
-        record { how = ran.ending; by_is = by_is; holds = statistics_after r reads read source g items s c state taken_plan ran.ending part ran.statistics e (told_is ∙ ap (counted_text s state) is) })
-
-  trace_stands : (reads : List Did) (read : ReadsSpec reads) (source : List ℕ) (g : GivesSource source reads) (by : Ended) (rest : List Did)
-      → SourceEnds source (HasMonitored source r by) by rest → Stands (Some (command.Run r)) by.ending (seen (Opened Spec r.spec ∷ (reads ++ rest)))
-  trace_stands reads read source g by rest (spec_refused {fault} same nothing refused none) =
-      refused_stands (command.Run r) r.spec refl (λ fault x is. is) reads read source g by fault rest same refused none
-  trace_stands reads read source g by rest (compiled_ends h) = monitored_stands reads read source g h.items h.system h.compiles h.ran by h.ending rest h.ends
-
-  not_at_work : (by : Ending) (fault : SpecFault) → by ≡ ending.Spec fault → stage_of by ≡ at_work → ⊥
-  not_at_work by fault same at = absurd (let e : at_program ≡ at_work = sym (ap stage_of same) ∙ at in cc)
-
-  trace_before : (reads : List Did) (read : ReadsSpec reads) (source : List ℕ) (g : GivesSource source reads) (by : Ended) (rest : List Did)
-      → SourceEnds source (HasMonitored source r by) by rest → IsToldBy (Some (command.Run r)) by (seen (Opened Spec r.spec ∷ (reads ++ rest)))
-  trace_before reads read source g by rest (spec_refused {fault} same line refused none) =
-      record { before = []; is_before = refused_before (not_at_work by.ending fault same) refl; text_is = line }
-  trace_before reads read source g by rest (compiled_ends h) = record {
-    before = h.ran.statistics;
-    is_before = monitored_before reads read source g h.items h.system h.compiles h.ran by h.ending r.stats refl rest h.ends;
-    text_is = h.told;
-  }
+  written_before : (x : Seen) (by : Ended) (rest : List Did) → SourceEnds source (HasWritten source f by) by rest → IsToldBy (Some write) by x
+  written_before x by rest (spec_refused same line refused none) = told_by_line (Some write) by x refl line
+  written_before x by rest (compiled_ends h) = told_by_line (Some write) by x refl h.told
 
 -- A text that needs no specification of the outside.
 sample_stands : (n : ℕ) (by : Ending) (part : List Did) → AloneIsDone (λ text. text ≡ trace_text n) (λ by. ⊥) by part → Stands (Some (command.Generate n)) by (seen part)
@@ -199,44 +132,48 @@ sample_stands n by part (written done p) = subst (λ (b : Ending). Stands (Some 
   holds = (refl, p.whole ∙ p.is);
   opens = openings_none part (gifts_transfer Out part p.writes.gifts);
   whole = tt;
-  silent = λ is. never is;
+  makes = creations_none part (gifts_transfer Out part p.writes.gifts);
+  silent = λ to is. done_speaks to is;
 }
 sample_stands n by part (stopped stops none) = absurd stops
 
 stops_stand : (kind : Workload) (n : ℕ) (by : Ending) → BenchStops kind n by → Stands (Some (command.Bench kind n)) by (seen [])
 stops_stand kind n ending.Done stops = absurd (stops_not_done kind n stops)
 stops_stand kind n ending.Words stops = absurd (stops_not_words kind n stops)
-stops_stand kind n (ending.Spec fault) stops = record { holds = stops; opens = refl; whole = tt; silent = λ is. refl }
-stops_stand kind n (ending.Trace fault) stops = record { holds = (stops, refl); opens = refl; whole = tt; silent = λ is. refl }
-stops_stand kind n (ending.Fault t k p) stops = record { holds = (stops, refl); opens = refl; whole = tt; silent = λ is. refl }
-stops_stand kind n (ending.Limit m t) stops = record { holds = (stops, refl); opens = refl; whole = tt; silent = λ is. refl }
+stops_stand kind n (ending.Spec fault) stops = record { holds = stops; opens = refl; whole = tt; makes = refl; silent = λ to is. nothing_given [] to tt }
+stops_stand kind n (ending.Code fault) stops = record { holds = stops; opens = refl; whole = tt; makes = refl; silent = λ to is. nothing_given [] to tt }
+stops_stand kind n (ending.NoOutput name) stops = record { holds = stops; opens = refl; whole = tt; makes = refl; silent = λ to is. nothing_given [] to tt }
+stops_stand kind n (ending.Trace fault) stops = record { holds = (stops, refl); opens = refl; whole = tt; makes = refl; silent = λ to is. nothing_given [] to tt }
+stops_stand kind n (ending.Fault t k p) stops = record { holds = (stops, refl); opens = refl; whole = tt; makes = refl; silent = λ to is. nothing_given [] to tt }
+stops_stand kind n (ending.Limit m t) stops = record { holds = (stops, refl); opens = refl; whole = tt; makes = refl; silent = λ to is. nothing_given [] to tt }
 
 tally_stands : (kind : Workload) (n : ℕ) (by : Ending) (part : List Did) → AloneIsDone (IsTallyText kind n) (BenchStops kind n) by part → Stands (Some (command.Bench kind n)) by (seen part)
 tally_stands kind n by part (written done p) = subst (λ (b : Ending). Stands (Some (command.Bench kind n)) b (seen part)) (sym done) record {
   holds = subst (IsTallyText kind n) (sym p.whole) p.is;
   opens = openings_none part (gifts_transfer Out part p.writes.gifts);
   whole = tt;
-  silent = λ is. never is;
+  makes = creations_none part (gifts_transfer Out part p.writes.gifts);
+  silent = λ to is. done_speaks to is;
 }
 tally_stands kind n by part (stopped stops none) = subst (λ (l : List Did). Stands (Some (command.Bench kind n)) by (seen l)) (sym none) (stops_stand kind n by stops)
 
 words_stand : (by : Ended) (part : List Did) → WordsRefused by part → Stands None by.ending (seen part)
 words_stand by part w =
     subst (λ (b : Ending). Stands None b (seen part)) (sym w.ending)
-    (subst (λ (l : List Did). Stands None ending.Words (seen l)) (sym w.nothing) record { holds = refl; opens = refl; whole = tt; silent = λ is. refl })
+    (subst (λ (l : List Did). Stands None ending.Words (seen l)) (sym w.nothing) record { holds = refl; opens = refl; whole = tt; makes = refl; silent = λ to is. nothing_given [] to tt })
 
 -- What stands where a command was done, from its parts, and what is told before its line.
 pub asked_stands : (c : Option Command) (by : Ended) (part : List Did) → DoesAllAsked c by part → Stands c by.ending (seen part)
 asked_stands None by part does = words_stand by part does
 asked_stands (Some (command.Write name f)) by _ (whole_ends reads rest source r g e) = written_stands name f reads r source g by rest e
-asked_stands (Some (command.Run r)) by _ (whole_ends reads rest source read g e) = trace_stands r reads read source g by rest e
+asked_stands (Some (command.Run r)) by _ (whole_ends reads rest bytes read g e) = trace_stands r reads read bytes g by rest e
 asked_stands (Some (command.Generate n)) by part does = sample_stands n by.ending part does.done
 asked_stands (Some (command.Bench kind n)) by part does = tally_stands kind n by.ending part does.done
 
 pub asked_before : (c : Option Command) (by : Ended) (part : List Did) → DoesAllAsked c by part → IsToldBy c by (seen part)
 asked_before None by part does = told_by_line None by (seen part) refl does.told
-asked_before (Some (command.Write name f)) by _ (whole_ends reads rest source r g e) = written_before name f (seen (Opened Spec name ∷ (reads ++ rest))) source by rest e
-asked_before (Some (command.Run r)) by _ (whole_ends reads rest source read g e) = trace_before r reads read source g by rest e
+asked_before (Some (command.Write name f)) by _ (whole_ends reads rest source r g e) = written_before name f reads r source g (seen (Opened Spec name ∷ (reads ++ rest))) by rest e
+asked_before (Some (command.Run r)) by _ (whole_ends reads rest bytes read g e) = trace_before r reads read bytes g by rest e
 asked_before (Some (command.Generate n)) by part does = told_by_line (Some (command.Generate n)) by (seen part) refl does.told
 asked_before (Some (command.Bench kind n)) by part does = told_by_line (Some (command.Bench kind n)) by (seen part) refl does.told
 
@@ -269,14 +206,15 @@ module _ (c : Option Command) (unseen : (x : Seen) → NoUpdateIsSeen c x) where
     pub shows_told : Shows c part → ShowsAlways c (part ++ more)
     shows_told s = record {
       opens = subst (λ (l : List (Slot × List ℕ)). Begins l (for_asked (opened_at at_work) c)) (sym (openings_before part more moves)) s.opens;
-      makes = creations_before part more moves ∙ s.makes;
+      makes = subst (λ (l : List (Channel × List ℕ)). Begins l (for_asked made_files c)) (sym (creations_before part more moves)) s.makes;
+      makes_last = after_writes IsCreation (λ before. IsAllWhole c (seen before) × MayMake c (seen before)) (λ did gift. transfer_makes_none did (gift_transfer Err did gift)) s.makes_last;
       in_turn = record {
         opens = λ from. after_writes (IsOpening from) (λ before. AreWholeBefore from (for_asked (opened_at at_work) c) (seen before)) (λ did gift. transfer_opens_none from did (gift_transfer Err did gift)) (s.in_turn.opens from);
         reads = λ from. at_more from (λ before. AreWholeBefore from (for_asked (opened_at at_work) c) (seen before)) part more (s.in_turn.reads from) (no_reads from);
       };
       writes_last = λ to other. after_writes (IsGift to) (λ before. IsAllWhole c (seen before)) (λ did gift. not_gift to did (gift_elsewhere Err to (same_channel_back Err to ∙ other) did gift)) (s.writes_last to other);
       ends = λ from. at_more from (λ before. ended from before ≡ false) part more (s.ends from) (no_reads from);
-      limit = at_more Spec _ part more s.limit (no_reads Spec);
+      limits = λ from. at_more from _ part more (s.limits from) (no_reads from);
       pieces = Each-append _ part more s.pieces (gifts_within Err _ more gifts);
       stops = stops_told s.stops s.silent;
       due = at_more Trace _ part more s.due (no_reads Trace);
@@ -305,10 +243,12 @@ module _ (c : Option Command) (unseen : (x : Seen) → NoUpdateIsSeen c x) where
     concludes_failure call (some_of_broken is write gifts less) =
         with_outcome part more gifts shows before now status (outside is (untold_failure (call_and_write before mid now call write) (less_told part more gifts (broken_line broken.Outside) (given_none Err part shows.silent) less)))
 
-    pub concludes_memory : NoneFailed before mid → TellsBroken broken.Memory mid now status more → Concludes c before now status (part ++ more)
-    concludes_memory none (all_of_broken is same gifts whole) = with_outcome part more gifts shows before now status (memory is (err_told part more gifts (given_none Err part shows.silent) ∙ whole))
-    concludes_memory none (some_of_broken is write gifts less) =
-        with_outcome part more gifts shows before now status (outside is (untold_memory (none_and_write before mid now none write) (less_told part more gifts (broken_line broken.Memory) (given_none Err part shows.silent) less)))
+    pub concludes_memory : NoneFailed before mid → MakesNothing part → TellsBroken broken.Memory mid now status more → Concludes c before now status (part ++ more)
+    concludes_memory none unmade (all_of_broken is same gifts whole) =
+        with_outcome part more gifts shows before now status
+        (memory is record { told = err_told part more gifts (given_none Err part shows.silent) ∙ whole; makes = creations_before part more (moves part more gifts) ∙ unmade })
+    concludes_memory none unmade (some_of_broken is write gifts less) =
+        with_outcome part more gifts shows before now status (outside is (untold_memory (none_and_write before mid now none write) (creations_before part more (moves part more gifts) ∙ unmade) (less_told part more gifts (broken_line broken.Memory) (given_none Err part shows.silent) less)))
 
     -- An ending is told.
     pub concludes_ending : (by : Ended) → NoneFailed before mid → Stands c by.ending (seen part) → IsToldBy c by (seen part) → TellsEnding by mid now status more → Concludes c before now status (part ++ more)
@@ -324,14 +264,23 @@ module _ (c : Option Command) (unseen : (x : Seen) → NoUpdateIsSeen c x) where
         (still part more gifts (λ x. IsToldBefore c by.ending x t.before) t.is_before)
         (subst (λ (l : List ℕ). BeginsStrictly (given Err (part ++ more)) l) t.text_is (less_told part more gifts by.text (given_none Err part shows.silent) less))))
 
-  pub concludes_broken : (by : Broken) (before mid now : Failures) (status : ℕ) (part more : List Did) → (by ≡ broken.Outside → CallFailed before mid) → (by ≡ broken.Memory → NoneFailed before mid) → Shows c part
+  pub concludes_broken : (by : Broken) (before mid now : Failures) (status : ℕ) (part more : List Did) → (by ≡ broken.Outside → CallFailed before mid) → (by ≡ broken.Memory → NoneFailed before mid) → (by ≡ broken.Memory → MakesNothing part) → Shows c part
       → TellsBroken by mid now status more → Concludes c before now status (part ++ more)
-  concludes_broken broken.Outside before mid now status part more call none shows tells = concludes_failure before mid now status part more shows (call refl) tells
-  concludes_broken broken.Memory before mid now status part more call none shows tells = concludes_memory before mid now status part more shows (none refl) tells
+  concludes_broken broken.Outside before mid now status part more call none unmade shows tells = concludes_failure before mid now status part more shows (call refl) tells
+  concludes_broken broken.Memory before mid now status part more call none unmade shows tells = concludes_memory before mid now status part more shows (none refl) (unmade refl) tells
 
 is_which : (by : Broken) → (by ≡ broken.Outside) ⊎ (by ≡ broken.Memory)
 is_which broken.Outside = inl refl
 is_which broken.Memory = inr refl
+
+-- Where memory ran out no file was made: a fact about the same calls as another.
+module _ {W : Type 0} (told : W → Bool) (journal : W → List Did) where
+  pub grows_unmade : (by : Broken) (old new : W) (P : List Did → Type 0) → Grows told journal old new P → (by ≡ broken.Memory → Grows told journal old new MakesNothing)
+      → Grows told journal old new (λ p. P p × (by ≡ broken.Memory → MakesNothing p))
+  grows_unmade by old new P calls unmade = elim (is_which by) [
+    | inl failed ↦ grows_weaker told journal old new P (λ p. P p × (by ≡ broken.Memory → MakesNothing p)) calls (λ p holds. (holds, λ is. absurd (let bad : broken.Outside ≡ broken.Memory = sym failed ∙ is in cc)))
+    | inr ran_out ↦ grows_weaker told journal old new (λ p. P p × MakesNothing p) (λ p. P p × (by ≡ broken.Memory → MakesNothing p)) (grows_both told journal old new P MakesNothing calls (unmade ran_out)) (λ p both. (both.0, λ is. both.1))
+  ]
 
 -- The count of failures where a run was cut short, and its line was written or not.
 pub calm_broken : (by : Broken) (old mid new : ℕ) → (by ≡ broken.Memory → mid ≡ old) → (result : ℕ) → (by ≡ broken.Outside → result ≡ 5) → ((result ≡ 5 → ⊥) → new ≡ mid) → (result ≡ 5 → ⊥) → new ≡ old
@@ -353,6 +302,8 @@ no_five : (by : Ending) → 5 ≡ status_of by → ⊥
 no_five ending.Done is = absurd (omega arith)
 no_five ending.Words is = absurd (omega arith)
 no_five (ending.Spec place) is = absurd (omega arith)
+no_five (ending.Code fault) is = absurd (omega arith)
+no_five (ending.NoOutput name) is = absurd (omega arith)
 no_five (ending.Trace fault) is = absurd (omega arith)
 no_five (ending.Fault t k p) is = absurd (omega arith)
 no_five (ending.Limit n t) is = absurd (omega arith)

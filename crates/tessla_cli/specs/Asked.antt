@@ -1,17 +1,27 @@
--- What a command opens, what it is told at its end, and how far a run goes.
+-- What a command opens and makes, what it is told at its end, and how far a run goes.
 use Rattle.std.specs.Prelude.{ℕ, Bool, false, List, [], ◌∷◌, ◌++◌, Option, Some}
 use Rattle.std.specs.Option.{option_map_or}
 use Rattle.command_words.specs.declared.command.Command.{Command}
 use Rattle.command_words.specs.declared.command.Command.TheVariants as command
+use Rattle.command_words.specs.declared.command.Origin.{Origin}
+use Rattle.command_words.specs.declared.command.Origin.TheVariants as origin
+use Rattle.command_words.specs.declared.command.Form.TheVariants as form
 use Rattle.command_words.specs.declared.command.Run.{Run}
 use Rattle.trace_monitor.specs.declared.options.Options.{Options}
+use Rattle.tsl_world.specs.declared.outside.Channel.{Channel}
+use Rattle.tsl_world.specs.declared.outside.Channel.TheVariants as channel
 use Rattle.tsl_world.specs.declared.outside.Slot.{Slot}
 use Rattle.tsl_world.specs.declared.outside.Slot.TheVariants as slot
+
+-- the file that what runs comes from
+abbrev pub origin_file : Origin → Slot × List ℕ
+origin_file (origin.Spec name) = (slot.Spec, name)
+origin_file (origin.Code name) = (slot.Code, name)
 
 -- the file that is read whole first
 abbrev pub program_files : Command → List (Slot × List ℕ)
 program_files (command.Write spec form) = (slot.Spec, spec) ∷ []
-program_files (command.Run r) = (slot.Spec, r.spec) ∷ []
+program_files (command.Run r) = origin_file r.origin ∷ []
 program_files c = []
 
 -- and after it the trace
@@ -19,8 +29,13 @@ abbrev pub trace_files : Command → List (Slot × List ℕ)
 trace_files (command.Run r) = (slot.Trace, r.trace) ∷ []
 trace_files c = []
 
+-- what is made: the file of the code
+abbrev pub made_files : Command → List (Channel × List ℕ)
+made_files (command.Write spec (form.File name)) = (channel.Code, name) ∷ []
+made_files c = []
+
 -- nothing where the words are not accepted
-abbrev pub for_asked : (Command → List (Slot × List ℕ)) → Option Command → List (Slot × List ℕ)
+abbrev pub for_asked : {A : Type 0} → (Command → List A) → Option Command → List A
 for_asked files c = option_map_or files c []
 
 -- a run with statistics is asked for

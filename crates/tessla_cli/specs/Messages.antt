@@ -3,6 +3,8 @@ use Rattle.std.specs.Prelude.{ℕ, List, [], ◌∷◌, ◌++◌, codes}
 use Rattle.std.specs.Fmt.{decimal}
 use Rattle.tsl_value.specs.declared.place.Place.{Place}
 use Rattle.event_writer.specs.Text.{place_text, fault_line}
+use Rattle.code_file.specs.declared.fault.CodeFault.{CodeFault}
+use Rattle.code_file.specs.declared.fault.CodeFault.TheVariants as code
 use Rattle.spec_lexer.specs.declared.fault.LexFault.{LexFault}
 use Rattle.spec_lexer.specs.declared.fault.LexFault.TheVariants as lex
 use Rattle.spec_parser.specs.declared.parse.ParseFault.{ParseFault}
@@ -112,6 +114,19 @@ spec_text (spec.Flat fault) = flat_text fault
 spec_text (spec.Cycle place names) = cycle_text place names.items
 spec_text spec.Memory = []
 
+-- the equation of code whose types are wrong
+abbrev pub wrong_types_text : ℕ → List ℕ
+wrong_types_text equation = codes "wrong types in equation " ++ decimal equation
+
+-- why there is no code file, or why it has no code
+abbrev pub code_text : CodeFault → List ℕ
+code_text code.TooLong = codes "too long"
+code_text code.WrongForm = codes "wrong form"
+code_text (code.WrongTypes equation) = wrong_types_text equation
+code_text code.Cycle = codes "cycle"
+code_text code.NotFine = codes "plan not fine"
+code_text code.Memory = []
+
 -- how many instants ran, and when the next one comes
 abbrev pub next_text : ℕ → List ℕ
 next_text time = codes " instants before time " ++ decimal time
@@ -128,6 +143,8 @@ abbrev pub ending_line : Ending → List ℕ
 ending_line ending.Done = []
 ending_line ending.Words = as_line (codes "words not accepted")
 ending_line (ending.Spec fault) = as_line (codes "spec " ++ spec_text fault)
+ending_line (ending.Code fault) = as_line (codes "code: " ++ code_text fault)
+ending_line (ending.NoOutput name) = as_line (codes "no output " ++ name)
 ending_line (ending.Trace fault) = as_line (codes "trace " ++ trace_text fault)
 ending_line (ending.Fault time kind place) = fault_line time kind place
 ending_line (ending.Limit count time) = as_line (limit_text count time)
@@ -150,3 +167,5 @@ status_of ending.Words = 2
 status_of (ending.Spec fault) = 3
 status_of (ending.Trace fault) = 4
 status_of (ending.Limit count time) = 7
+status_of (ending.Code fault) = 9
+status_of (ending.NoOutput name) = 10

@@ -17,11 +17,11 @@ use Rattle.tessla_cli.specs.declared.ended.Ended.{Ended}
 use Rattle.tessla_cli.specs.declared.ending.Ending.{Ending}
 use Rattle.tessla_cli.specs.Asked.{asks_statistics, options_of}
 use Rattle.tessla_cli.specs.Causes.{Cause, Stands}
-use Rattle.tessla_cli.specs.Conduct.{OpensAsAsked, MakesNothing, TakesInTurn, StopsAtEnds, StopsAtLimit, ReadsPieces, GoesOnAtReads}
-use Rattle.tessla_cli.specs.Conduct.{IsPartlyDue, StopsAtFailures, WritesLast}
+use Rattle.tessla_cli.specs.Conduct.{OpensAsAsked, MakesAsAsked, MakesLast, TakesInTurn, StopsAtEnds, StopsAtLimits, ReadsPieces}
+use Rattle.tessla_cli.specs.Conduct.{GoesOnAtReads, IsPartlyDue, MakesNothing, StopsAtFailures, WritesLast}
 use Rattle.tessla_cli.specs.Endings.{OfEnding}
 use Rattle.tessla_cli.specs.Failures.{Failures, NoneFailed, CallFailed, WriteFailed, BothFailed}
-use Rattle.tessla_cli.specs.Headline.{IsDueAtReads, OfSource}
+use Rattle.tessla_cli.specs.Headline.{IsDueAtReads, OfRun}
 use Rattle.tessla_cli.specs.Messages.{ending_line, broken_line, broken_status, status_of}
 use Rattle.tessla_cli.specs.Stages.{at_work, stage_of}
 use Rattle.tessla_cli.specs.Unseen.{NoUpdateIsSeen}
@@ -29,6 +29,11 @@ use Rattle.tessla_cli.specs.Unseen.{NoUpdateIsSeen}
 -- this is what was given to Err
 abbrev pub Tells : List ℕ → List Did → Type 0
 Tells line part = given Err part ≡ line
+
+-- Status 6: memory ran out. That is all that is told, and no file was made.
+pub record RanOut (part : List Did) : Type 0 where
+  pub told : Tells (broken_line broken.Memory) part
+  pub makes : MakesNothing part
 
 -- A run that was cut short is told by its line. Where a write of that fails, which is counted, nothing more is written.
 pub data TellsBroken (by : Broken) (before now : Failures) (status : ℕ) (part : List Did) : Type 0 where
@@ -49,7 +54,7 @@ module _ (c : Option Command) where
     unasked : asks_statistics c ≡ false → text ≡ [] → IsToldBefore by x text
     refused_before : (stage_of by ≡ at_work → ⊥) → text ≡ [] → IsToldBefore by x text
     counted : (r : Run) → c ≡ Some (command.Run r) → r.stats ≡ true
-        → OfSource x (λ items s. OfEnding by (λ how. AreStatistics s (options_of r) (x.taken Trace) (x.ended Trace) how text))
+        → OfRun r.origin x (λ p. OfEnding by (λ how. AreStatistics p (options_of r) (x.taken Trace) (x.ended Trace) how text))
         → IsToldBefore by x text
 
   -- The program ends so. Err was given what is told before and then the line of the ending, if it has one.
@@ -61,25 +66,27 @@ module _ (c : Option Command) where
 
   -- The program ends with this status, by an ending that has it: 0 where all was done, 1 where a fault is closed within the limit of
   -- instants, 2 where the words are not accepted, 3 where the specification is refused, 4 where a line of the trace is and no fault and no
-  -- limit came at a time closed before it, 7 where one more instant than may be is closed, and none before it has a fault.
+  -- limit came at a time closed before it, 7 where one more instant than may be is closed, and none before it has a fault, 9 where the
+  -- bytes of the code are too many or a code file is refused, 10 where no output has the name.
   abbrev pub EndsWith : ℕ → List Did → Type 0
   EndsWith status part = (by : Ending) × (status ≡ status_of by) × Ends by part
 
   -- Status 5. A call failed, and Err was given the whole line that tells it. Or a write to Err failed, and Err was given less than the
-  -- text of which it was: of what tells an ending, or of the line that tells that memory ran out, or of that line, where a call had failed
-  -- before.
+  -- text of which it was: of what tells an ending, or of the line that tells that memory ran out, before which no file was made, or of that
+  -- line, where a call had failed before.
   pub data TellsFailure (before now : Failures) (part : List Did) : Type 0 where
     told_failure : CallFailed before now → Tells (broken_line broken.Outside) part → TellsFailure before now part
     untold_ending : WriteFailed before now → (by : Ending) → Stands c by (seen part) → (text : List ℕ) → IsToldBefore by (seen part) text
         → BeginsStrictly (given Err part) (text ++ ending_line by) → TellsFailure before now part
-    untold_memory : WriteFailed before now → BeginsStrictly (given Err part) (broken_line broken.Memory) → TellsFailure before now part
+    untold_memory : WriteFailed before now → MakesNothing part → BeginsStrictly (given Err part) (broken_line broken.Memory)
+        → TellsFailure before now part
     untold_failure : BothFailed before now → BeginsStrictly (given Err part) (broken_line broken.Outside) → TellsFailure before now part
 
   -- one of these, by the status
   pub data Outcome (before now : Failures) (status : ℕ) (part : List Did) : Type 0 where
     told : (by : Ending) → status ≡ status_of by → Ends by part → Outcome before now status part
     outside : status ≡ 5 → TellsFailure before now part → Outcome before now status part
-    memory : status ≡ 6 → Tells (broken_line broken.Memory) part → Outcome before now status part
+    memory : status ≡ 6 → RanOut part → Outcome before now status part
 
   -- Exactly where: where an ending has its cause, the status is its own, unless the outside failed or memory ran out.
   abbrev pub IsExact : ℕ → Seen → Type 0
@@ -88,11 +95,12 @@ module _ (c : Option Command) where
   -- what every run shows, whatever its status
   pub record ShowsAlways (part : List Did) : Type 0 where
     pub opens : OpensAsAsked c part
-    pub makes : MakesNothing part
+    pub makes : MakesAsAsked c part
+    pub makes_last : MakesLast c part
     pub in_turn : TakesInTurn c part
     pub writes_last : WritesLast c part
     pub ends : StopsAtEnds part
-    pub limit : StopsAtLimit part
+    pub limits : StopsAtLimits part
     pub pieces : ReadsPieces part
     pub stops : StopsAtFailures part
     pub due : IsDueAtReads c part

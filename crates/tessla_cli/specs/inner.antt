@@ -1,1 +1,2 @@
 pub mod RunPhases
+pub mod FileLaws

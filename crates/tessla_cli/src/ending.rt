@@ -3,12 +3,14 @@
 ghost use Rattle.std.specs.Prelude.{◌≡◌, ◌≢◌, IfOk};
 ghost use Rattle.tessla_cli.specs.Endings.{ending_of};
 
+use code_file::fault::CodeFault;
 use lift_func::fault::FaultKind;
 use source_rules::fault::SpecFault;
 use trace_monitor::ending::RunEnding;
 use trace_reader::fault::TraceFault;
 use tsl_value::memory::NoMemory;
 use tsl_value::place::Place;
+use tsl_value::text::Text;
 use tsl_value::time::Time;
 
 /// How a run ends where the outside and the memory served it.
@@ -20,6 +22,10 @@ pub enum Ending {
     Words,
     /// The specification is refused, in this way and at this place.
     Spec(SpecFault),
+    /// There is no code, for this cause: none is written, or a file has none.
+    Code(CodeFault),
+    /// No output is printed under this name.
+    NoOutput(Text),
     /// A line of the trace is refused.
     Trace(TraceFault),
     /// An equation faults: the fault that is named, and the place of its equation.
@@ -55,5 +61,16 @@ pub fn refused(fault: SpecFault) -> Result<Ending, NoMemory>
     match fault {
         SpecFault::Memory => Err(NoMemory),
         fault => Ok(Ending::Spec(fault)),
+    }
+}
+
+/// How a run ends where there is no code, for this cause. Out of memory is none.
+pub fn no_code(fault: CodeFault) -> Result<Ending, NoMemory>
+    ensures ending { IfOk result (λ ending. ending ≡ Ending.Code fault) }
+    ensures cause { IfOk result (λ _. fault ≢ CodeFault.Memory) }
+{
+    match fault {
+        CodeFault::Memory => Err(NoMemory),
+        fault => Ok(Ending::Code(fault)),
     }
 }

@@ -1,11 +1,13 @@
 // What is told on the standard error.
 
 ghost use Rattle.std.specs.Prelude.{◌≡◌, ◌++◌, OnOk};
-ghost use Rattle.tessla_cli.specs.Messages.{at_text, back_text, broken_line, broken_status, clash_text, cycle_text};
+ghost use Rattle.tessla_cli.specs.Messages.{at_text, back_text, broken_line, broken_status, clash_text, code_text, cycle_text};
 ghost use Rattle.tessla_cli.specs.Messages.{ending_line, flat_text, lex_text, limit_text, line_text, members_text, next_text, parse_text};
 ghost use Rattle.tessla_cli.specs.Messages.{spec_text, status_of, trace_text, twice_text, types_text, wrong_text};
+ghost use Rattle.tessla_cli.specs.Messages.{wrong_types_text};
 
 use crate::ending::Ending;
+use code_file::fault::CodeFault;
 use event_writer::fault::write_fault;
 use event_writer::place::print_place;
 use source_rules::fault::{FlatFault, SpecFault};
@@ -14,6 +16,7 @@ use spec_parser::parse::ParseFault;
 use trace_reader::fault::TraceFault;
 use trace_run::broken::Broken;
 use tsl_value::bytes::Bytes;
+use tsl_value::ids::EqId;
 use tsl_value::memory::NoMemory;
 use tsl_value::place::Place;
 use tsl_value::print::print_number;
@@ -210,6 +213,28 @@ fn print_limit(count: u64, time: Time, out: &mut Bytes) -> Result<(), NoMemory>
     print_next(time, out)
 }
 
+/// Appends the equation of code whose types are wrong.
+fn print_wrong_types(equation: EqId, out: &mut Bytes) -> Result<(), NoMemory>
+    ensures { OnOk result (out.new ≡ out.old ++ wrong_types_text equation) }
+{
+    out.append(b"wrong types in equation ")?;
+    print_number(u64::from(equation.get()), out)
+}
+
+/// Appends why there is no code file, or why it has no code.
+fn print_code(fault: CodeFault, out: &mut Bytes) -> Result<(), NoMemory>
+    ensures { OnOk result (out.new ≡ out.old ++ code_text fault) }
+{
+    match fault {
+        CodeFault::TooLong => out.append(b"too long"),
+        CodeFault::WrongForm => out.append(b"wrong form"),
+        CodeFault::WrongTypes { equation } => print_wrong_types(equation, out),
+        CodeFault::Cycle => out.append(b"cycle"),
+        CodeFault::NotFine => out.append(b"plan not fine"),
+        CodeFault::Memory => Ok(()),
+    }
+}
+
 /// Appends the line that tells an ending.
 pub fn print_ending(ending: &Ending, out: &mut Bytes) -> Result<(), NoMemory>
     ensures { OnOk result (out.new ≡ out.old ++ ending_line ending.now) }
@@ -220,6 +245,16 @@ pub fn print_ending(ending: &Ending, out: &mut Bytes) -> Result<(), NoMemory>
         Ending::Spec(fault) => {
             out.append(b"spec ")?;
             print_spec(fault, out)?;
+            out.push(b'\n')
+        }
+        Ending::Code(fault) => {
+            out.append(b"code: ")?;
+            print_code(*fault, out)?;
+            out.push(b'\n')
+        }
+        Ending::NoOutput(name) => {
+            out.append(b"no output ")?;
+            out.append(name.as_str().as_bytes())?;
             out.push(b'\n')
         }
         Ending::Trace(fault) => {
@@ -247,6 +282,8 @@ impl Ending {
             Ending::Spec(_) => 3,
             Ending::Trace(_) => 4,
             Ending::Limit { .. } => 7,
+            Ending::Code(_) => 9,
+            Ending::NoOutput(_) => 10,
         }
     }
 }

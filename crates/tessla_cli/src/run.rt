@@ -1,31 +1,38 @@
 // A run, from the words to its end.
 
-ghost use Rattle.std.specs.Prelude.{◌≡◌, ◌<◌, ◌≤◌, ◌^◌, ℕ, List, false, length, IfOk, OnOk, IsErrOf};
+ghost use Rattle.std.specs.Prelude.{◌≡◌, ◌<◌, ◌≤◌, ◌^◌, ℕ, List, false, length, IfOk, OnErr, OnOk, IsErrOf};
 ghost use Rattle.alias_rules.specs.Fine.{IsTakenPlan};
+ghost use Rattle.code_file.specs.Form.{HasSpelling};
 ghost use Rattle.command_words.specs.Words.{IsLimited, IsLimitedRun, command_of};
+ghost use Rattle.flat_core.specs.WellFormed.{IsWellFormed};
 ghost use Rattle.last_use.specs.Reasons.{AreReasons};
 ghost use Rattle.sample_trace.specs.Trace.{trace_text};
 ghost use Rattle.compiled_meaning.specs.Compiled.{CompilesSomething};
 ghost use Rattle.spec_lexer.specs.declared.limits.TheConstants.{MOST_SOURCE_BYTES};
 ghost use Rattle.trace_run.specs.Limited.{AreLimited};
-ghost use Rattle.tsl_world.specs.Standing.{at_first, is_open};
+ghost use Rattle.tsl_world.specs.Standing.{at_first, is_open, is_writable};
 ghost use Rattle.tsl_world.specs.Runs.{Grows};
 ghost use Rattle.tsl_world.specs.World.{RoseBy};
 ghost use Rattle.tessla_cli.specs.Alone.{BenchStops, IsTallyText};
 ghost use Rattle.tessla_cli.specs.Asked.{options_of};
-ghost use Rattle.tessla_cli.specs.inner.RunPhases.{AloneEnds, Does, DoesAll, DoesAllAsked, DoesAsked, GivesName, HasMonitored, HasPrinted};
-ghost use Rattle.tessla_cli.specs.inner.RunPhases.{HasWritten, Monitors, Prints, ReadsName, RunsAlone, RunsSource, RunsSpec};
-ghost use Rattle.tessla_cli.specs.inner.RunPhases.{SourceEnds, SpecEnds};
+ghost use Rattle.tessla_cli.specs.inner.RunPhases.{AloneEnds, Does, DoesAll, DoesAllAsked, DoesAsked, GivesName, GivesOrigin, HasPrinted};
+ghost use Rattle.tessla_cli.specs.inner.RunPhases.{HasPut, HasWritten, Monitors, OriginEnds, Prints, Puts, ReadsName, ReadsOrigin};
+ghost use Rattle.tessla_cli.specs.inner.RunPhases.{RunEnds, RunsAlone, RunsOrigin, RunsSource, RunsSpec, SourceEnds, SpecEnds};
+ghost use Rattle.tessla_cli.specs.Conduct.{MakesNothing};
 
-use crate::bench::{Benched, outcome_of};
+use crate::bench::outcome_of;
 use crate::ended::Ended;
 use crate::ending::{Ending, refused};
 use crate::file::read_file;
+use crate::made::Made;
 use crate::print::text_of;
-use command_words::command::{Command, Form, Run, Workload};
+use crate::program::{Loaded, load};
+use code_file::limits::MOST_CODE_BYTES;
+use command_words::command::{Command, Form, Origin, Run, Workload};
 use command_words::words::Words;
+use flat_compiler::compile::Compiled;
 use sample_trace::trace::sample_trace;
-use spec_compiler::compile::{Compiled, compile};
+use spec_compiler::compile::compile;
 use spec_lexer::limits::MOST_SOURCE_BYTES;
 use std::alloc::Global;
 use trace_monitor::options::Options;
@@ -34,48 +41,77 @@ use trace_run::broken::Broken;
 use trace_run::run::run_code;
 use trace_run::write::write_all;
 use tsl_value::bytes::Bytes;
-use tsl_world::{Channel, Slot, World};
+use tsl_world::{Channel, Failed, Slot, World};
 
-/// Prints the text that the code of a source has in a form.
-fn print_text<W: World>(
+/// Writes a text where those of a form go: to the file of the form, which is made for it, or to Out.
+fn put_text<W: World>(world: &mut W, form: &Form, text: &[u8]) -> Result<(), Failed>
+    requires { is_writable (W.standing world.old) Channel.Code ≡ false }
+    ensures ok { OnOk result (W.faults world.new ≡ W.faults world.old) }
+    ensures failed { OnErr result (RoseBy 1 (W.faults world.old) (W.faults world.new)) }
+    ensures heard { W.unheard world.new ≡ W.unheard world.old }
+    ensures calls { Grows W.told W.journal world.old world.new (Puts text.now form.now) }
+    ensures whole { OnOk result (Grows W.told W.journal world.old world.new (HasPut text.now form.now)) }
+{
+    match form {
+        Form::File(name) => {
+            world.create(Channel::Code, name.as_str())?;
+            write_all(world, Channel::Code, text)
+        }
+        _ => write_all(world, Channel::Out, text),
+    }
+}
+
+/// Writes the text that the code of a source has in a form. All that takes memory is done before.
+fn write_text<W: World>(
     alloc: Global,
     world: &mut W,
-    form: Form,
+    form: &Form,
     compiled: &Compiled,
-) -> Result<Ending, Broken>
+) -> Result<Ended, Broken>
     requires taken { IsTakenPlan compiled.now.code.system compiled.now.code.in_place compiled.now.code.order }
     requires reasons { AreReasons compiled.now.code.system compiled.now.code.in_place compiled.now.reasons }
+    requires well_formed { IsWellFormed compiled.now.code.system }
+    requires spelling { HasSpelling compiled.now.code.system }
+    requires stands { is_writable (W.standing world.old) Channel.Code ≡ false }
     ensures ok { OnOk result (W.faults world.new ≡ W.faults world.old) }
     ensures outside { IsErrOf result Broken.Outside → RoseBy 1 (W.faults world.old) (W.faults world.new) }
     ensures memory { IsErrOf result Broken.Memory → W.faults world.new ≡ W.faults world.old }
+    ensures unmade { IsErrOf result Broken.Memory → Grows W.told W.journal world.old world.new MakesNothing }
     ensures heard { W.unheard world.new ≡ W.unheard world.old }
     ensures calls { (source : List ℕ) → CompilesSomething source compiled.now.code.system
-        → Grows W.told W.journal world.old world.new (RunsSource (Prints source form)) }
-    ensures ending { IfOk result (λ ending. (source : List ℕ) → CompilesSomething source compiled.now.code.system
-        → (ending ≡ Ending.Done) × Grows W.told W.journal world.old world.new (HasPrinted source form)) }
+        → Grows W.told W.journal world.old world.new (RunsSource (Prints source form.now)) }
+    ensures ending { IfOk result (λ ended. (source : List ℕ) → CompilesSomething source compiled.now.code.system
+        → Grows W.told W.journal world.old world.new (HasWritten source form.now ended)) }
 {
-    let text = text_of(alloc, form, compiled)?;
-    write_all(world, Channel::Out, text.as_slice())?;
-    Ok(Ending::Done)
+    match text_of(alloc, form, compiled)? {
+        Made::Text(text) => {
+            let ended = Ended::alone(alloc, Ending::Done)?;
+            put_text(world, form, text.as_slice())?;
+            Ok(ended)
+        }
+        Made::Stops(ending) => Ok(Ended::alone(alloc, ending)?),
+    }
 }
 
-/// Compiles a source and prints the text that it has in a form.
-fn print_source<W: World>(
+/// Compiles a source and writes the text that it has in a form.
+fn write_source<W: World>(
     alloc: Global,
     world: &mut W,
     source: &[u8],
-    form: Form,
+    form: &Form,
 ) -> Result<Ended, Broken>
+    requires { is_writable (W.standing world.old) Channel.Code ≡ false }
     ensures ok { OnOk result (W.faults world.new ≡ W.faults world.old) }
     ensures outside { IsErrOf result Broken.Outside → RoseBy 1 (W.faults world.old) (W.faults world.new) }
     ensures memory { IsErrOf result Broken.Memory → W.faults world.new ≡ W.faults world.old }
+    ensures unmade { IsErrOf result Broken.Memory → Grows W.told W.journal world.old world.new MakesNothing }
     ensures heard { W.unheard world.new ≡ W.unheard world.old }
-    ensures calls { Grows W.told W.journal world.old world.new (RunsSource (Prints source.now form)) }
+    ensures calls { Grows W.told W.journal world.old world.new (RunsSource (Prints source.now form.now)) }
     ensures ending { IfOk result (λ ended. Grows W.told W.journal world.old world.new
-        (SourceEnds source.now (HasWritten source.now form ended) ended)) }
+        (SourceEnds source.now (HasWritten source.now form.now ended) ended)) }
 {
     match compile(alloc, source) {
-        Ok(compiled) => Ok(Ended::alone(alloc, print_text(alloc, world, form, &compiled)?)?),
+        Ok(compiled) => write_text(alloc, world, form, &compiled),
         Err(fault) => Ok(Ended::alone(alloc, refused(fault)?)?),
     }
 }
@@ -93,11 +129,11 @@ fn options_of(run: &Run) -> Options
     }
 }
 
-/// Compiles a source and monitors the trace of a run.
-fn run_source<W: World>(
+/// Monitors the trace of a run by what comes of the bytes of its file.
+fn run_loaded<W: World>(
     alloc: Global,
     world: &mut W,
-    source: &[u8],
+    bytes: &[u8],
     run: &Run,
     buf: &mut [u8],
 ) -> Result<Ended, Broken>
@@ -109,21 +145,20 @@ fn run_source<W: World>(
     ensures outside { IsErrOf result Broken.Outside → RoseBy 1 (W.faults world.old) (W.faults world.new) }
     ensures memory { IsErrOf result Broken.Memory → W.faults world.new ≡ W.faults world.old }
     ensures heard { W.unheard world.new ≡ W.unheard world.old }
-    ensures calls { Grows W.told W.journal world.old world.new (RunsSource (Monitors source.now run.now)) }
-    ensures ending { IfOk result (λ ended. Grows W.told W.journal world.old world.new
-        (SourceEnds source.now (HasMonitored source.now run.now ended) ended)) }
+    ensures calls { Grows W.told W.journal world.old world.new (RunsSource (Monitors bytes.now run.now)) }
+    ensures ending { IfOk result (λ ended. Grows W.told W.journal world.old world.new (RunEnds bytes.now run.now ended)) }
 {
-    match compile(alloc, source) {
-        Ok(compiled) => Ok(Ended::of(run_code(
+    match load(alloc, &run.origin, bytes)? {
+        Loaded::Runs(code) => Ok(Ended::of(run_code(
             alloc,
             world,
-            &compiled.code,
+            &code,
             run.trace.as_str(),
             options_of(run),
             run.stats,
             buf,
         )?)?),
-        Err(fault) => Ok(Ended::alone(alloc, refused(fault)?)?),
+        Loaded::Stops(ending) => Ok(Ended::alone(alloc, ending)?),
     }
 }
 
@@ -142,6 +177,7 @@ fn read_spec<W: World>(
     ensures memory { IsErrOf result Broken.Memory → W.faults world.new ≡ W.faults world.old }
     ensures heard { W.unheard world.new ≡ W.unheard world.old }
     ensures trace { OnOk result (is_open (W.standing world.new) Slot.Trace ≡ false) }
+    ensures code { OnOk result (is_writable (W.standing world.new) Channel.Code ≡ false) }
     ensures calls { Grows W.told W.journal world.old world.new (ReadsName Slot.Spec MOST_SOURCE_BYTES name.now) }
     ensures source { IfOk result (λ source. Grows W.told W.journal world.old world.new
         (GivesName Slot.Spec MOST_SOURCE_BYTES name.now source)) }
@@ -149,12 +185,50 @@ fn read_spec<W: World>(
     read_file(alloc, world, Slot::Spec, name, MOST_SOURCE_BYTES, buf)
 }
 
+/// Opens the file of what runs and reads it.
+fn read_origin<W: World>(
+    alloc: Global,
+    world: &mut W,
+    from: &Origin,
+    buf: &mut [u8],
+) -> Result<Bytes, Broken>
+    requires room { 0 < length buf.old }
+    requires short { length buf.old ≤ MOST_PIECE_BYTES }
+    requires stands { W.standing world.old ≡ at_first }
+    ensures ok { OnOk result (W.faults world.new ≡ W.faults world.old) }
+    ensures outside { IsErrOf result Broken.Outside → RoseBy 1 (W.faults world.old) (W.faults world.new) }
+    ensures memory { IsErrOf result Broken.Memory → W.faults world.new ≡ W.faults world.old }
+    ensures heard { W.unheard world.new ≡ W.unheard world.old }
+    ensures trace { OnOk result (is_open (W.standing world.new) Slot.Trace ≡ false) }
+    ensures calls { Grows W.told W.journal world.old world.new (ReadsOrigin from.now) }
+    ensures bytes { IfOk result (λ bytes. Grows W.told W.journal world.old world.new (GivesOrigin from.now bytes)) }
+{
+    match from {
+        Origin::Spec(spec) => read_file(
+            alloc,
+            world,
+            Slot::Spec,
+            spec.as_str(),
+            MOST_SOURCE_BYTES,
+            buf,
+        ),
+        Origin::Code(file) => read_file(
+            alloc,
+            world,
+            Slot::Code,
+            file.as_str(),
+            MOST_CODE_BYTES,
+            buf,
+        ),
+    }
+}
+
 /// Reads a specification and writes a text of it, by this buffer.
 fn write_form<W: World>(
     alloc: Global,
     world: &mut W,
     spec: &str,
-    form: Form,
+    form: &Form,
     buf: &mut [u8],
 ) -> Result<Ended, Broken>
     requires room { 0 < length buf.old }
@@ -163,16 +237,17 @@ fn write_form<W: World>(
     ensures ok { OnOk result (W.faults world.new ≡ W.faults world.old) }
     ensures outside { IsErrOf result Broken.Outside → RoseBy 1 (W.faults world.old) (W.faults world.new) }
     ensures memory { IsErrOf result Broken.Memory → W.faults world.new ≡ W.faults world.old }
+    ensures unmade { IsErrOf result Broken.Memory → Grows W.told W.journal world.old world.new MakesNothing }
     ensures heard { W.unheard world.new ≡ W.unheard world.old }
-    ensures calls { Grows W.told W.journal world.old world.new (RunsSpec spec.now (λ source. RunsSource (Prints source form))) }
+    ensures calls { Grows W.told W.journal world.old world.new (RunsSpec spec.now (λ source. RunsSource (Prints source form.now))) }
     ensures ending { IfOk result (λ ended. Grows W.told W.journal world.old world.new
-        (SpecEnds spec.now (λ source. SourceEnds source (HasWritten source form ended) ended))) }
+        (SpecEnds spec.now (λ source. SourceEnds source (HasWritten source form.now ended) ended))) }
 {
     let source = read_spec(alloc, world, spec, buf)?;
-    Ok(print_source(alloc, world, source.as_slice(), form)?)
+    write_source(alloc, world, source.as_slice(), form)
 }
 
-/// Reads a specification and monitors a trace under it, by this buffer.
+/// Reads the file of what runs and monitors a trace by it, with this buffer.
 fn run_trace<W: World>(
     alloc: Global,
     world: &mut W,
@@ -187,12 +262,12 @@ fn run_trace<W: World>(
     ensures outside { IsErrOf result Broken.Outside → RoseBy 1 (W.faults world.old) (W.faults world.new) }
     ensures memory { IsErrOf result Broken.Memory → W.faults world.new ≡ W.faults world.old }
     ensures heard { W.unheard world.new ≡ W.unheard world.old }
-    ensures calls { Grows W.told W.journal world.old world.new (RunsSpec run.now.spec (λ source. RunsSource (Monitors source run.now))) }
+    ensures calls { Grows W.told W.journal world.old world.new (RunsOrigin run.now.origin (λ bytes. RunsSource (Monitors bytes run.now))) }
     ensures ending { IfOk result (λ ended. Grows W.told W.journal world.old world.new
-        (SpecEnds run.now.spec (λ source. SourceEnds source (HasMonitored source run.now ended) ended))) }
+        (OriginEnds run.now.origin (λ bytes. RunEnds bytes run.now ended))) }
 {
-    let source = read_spec(alloc, world, run.spec.as_str(), buf)?;
-    Ok(run_source(alloc, world, source.as_slice(), run, buf)?)
+    let bytes = read_origin(alloc, world, &run.origin, buf)?;
+    Ok(run_loaded(alloc, world, bytes.as_slice(), run, buf)?)
 }
 
 /// Writes a text of a specification, with a buffer of its own.
@@ -200,16 +275,17 @@ fn write_in_pieces<W: World>(
     alloc: Global,
     world: &mut W,
     spec: &str,
-    form: Form,
+    form: &Form,
 ) -> Result<Ended, Broken>
     requires { W.standing world.old ≡ at_first }
     ensures ok { OnOk result (W.faults world.new ≡ W.faults world.old) }
     ensures outside { IsErrOf result Broken.Outside → RoseBy 1 (W.faults world.old) (W.faults world.new) }
     ensures memory { IsErrOf result Broken.Memory → W.faults world.new ≡ W.faults world.old }
+    ensures unmade { IsErrOf result Broken.Memory → Grows W.told W.journal world.old world.new MakesNothing }
     ensures heard { W.unheard world.new ≡ W.unheard world.old }
-    ensures calls { Grows W.told W.journal world.old world.new (RunsSpec spec.now (λ source. RunsSource (Prints source form))) }
+    ensures calls { Grows W.told W.journal world.old world.new (RunsSpec spec.now (λ source. RunsSource (Prints source form.now))) }
     ensures ending { IfOk result (λ ended. Grows W.told W.journal world.old world.new
-        (SpecEnds spec.now (λ source. SourceEnds source (HasWritten source form ended) ended))) }
+        (SpecEnds spec.now (λ source. SourceEnds source (HasWritten source form.now ended) ended))) }
 {
     let mut buf = vec![in alloc; 0u8; MOST_PIECE_BYTES]?;
     Ok(write_form(alloc, world, spec, form, &mut buf)?)
@@ -223,9 +299,9 @@ fn run_in_pieces<W: World>(alloc: Global, world: &mut W, run: &Run) -> Result<En
     ensures outside { IsErrOf result Broken.Outside → RoseBy 1 (W.faults world.old) (W.faults world.new) }
     ensures memory { IsErrOf result Broken.Memory → W.faults world.new ≡ W.faults world.old }
     ensures heard { W.unheard world.new ≡ W.unheard world.old }
-    ensures calls { Grows W.told W.journal world.old world.new (RunsSpec run.now.spec (λ source. RunsSource (Monitors source run.now))) }
+    ensures calls { Grows W.told W.journal world.old world.new (RunsOrigin run.now.origin (λ bytes. RunsSource (Monitors bytes run.now))) }
     ensures ending { IfOk result (λ ended. Grows W.told W.journal world.old world.new
-        (SpecEnds run.now.spec (λ source. SourceEnds source (HasMonitored source run.now ended) ended))) }
+        (OriginEnds run.now.origin (λ bytes. RunEnds bytes run.now ended))) }
 {
     let mut buf = vec![in alloc; 0u8; MOST_PIECE_BYTES]?;
     Ok(run_trace(alloc, world, run, &mut buf)?)
@@ -264,11 +340,11 @@ fn tell_bench<W: World>(
         (AloneEnds (IsTallyText kind lines) (BenchStops kind lines) ended)) }
 {
     match outcome_of(alloc, kind, lines)? {
-        Benched::Text(text) => {
+        Made::Text(text) => {
             write_all(world, Channel::Out, text.as_slice())?;
             Ok(Ended::alone(alloc, Ending::Done)?)
         }
-        Benched::Stops(ending) => Ok(Ended::alone(alloc, ending)?),
+        Made::Stops(ending) => Ok(Ended::alone(alloc, ending)?),
     }
 }
 
@@ -279,12 +355,13 @@ fn perform<W: World>(alloc: Global, world: &mut W, command: &Command) -> Result<
     ensures ok { OnOk result (W.faults world.new ≡ W.faults world.old) }
     ensures outside { IsErrOf result Broken.Outside → RoseBy 1 (W.faults world.old) (W.faults world.new) }
     ensures memory { IsErrOf result Broken.Memory → W.faults world.new ≡ W.faults world.old }
+    ensures unmade { IsErrOf result Broken.Memory → Grows W.told W.journal world.old world.new MakesNothing }
     ensures heard { W.unheard world.new ≡ W.unheard world.old }
     ensures calls { Grows W.told W.journal world.old world.new (Does command.now) }
     ensures ending { IfOk result (λ ended. Grows W.told W.journal world.old world.new (DoesAll command.now ended)) }
 {
     match command {
-        Command::Write { spec, form } => write_in_pieces(alloc, world, spec.as_str(), *form),
+        Command::Write { spec, form } => write_in_pieces(alloc, world, spec.as_str(), form),
         Command::Run(run) => run_in_pieces(alloc, world, run),
         Command::Generate { lines } => generate(alloc, world, *lines),
         Command::Bench { kind, lines } => tell_bench(alloc, world, *kind, *lines),
@@ -297,6 +374,7 @@ pub fn run<W: World>(alloc: Global, words: &Words, world: &mut W) -> Result<Ende
     ensures ok { OnOk result (W.faults world.new ≡ W.faults world.old) }
     ensures outside { IsErrOf result Broken.Outside → RoseBy 1 (W.faults world.old) (W.faults world.new) }
     ensures memory { IsErrOf result Broken.Memory → W.faults world.new ≡ W.faults world.old }
+    ensures unmade { IsErrOf result Broken.Memory → Grows W.told W.journal world.old world.new MakesNothing }
     ensures heard { W.unheard world.new ≡ W.unheard world.old }
     ensures calls { Grows W.told W.journal world.old world.new (DoesAsked (command_of words.now)) }
     ensures ending { IfOk result (λ ended. Grows W.told W.journal world.old world.new (DoesAllAsked (command_of words.now) ended)) }

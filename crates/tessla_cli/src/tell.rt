@@ -18,7 +18,7 @@ pub fn tell_broken<W: World>(world: &mut W, broken: Broken) -> u8
         → ((broken ≡ Broken.Outside) × NoneFailed (failures W.faults W.unheard world.old) (failures W.faults W.unheard world.new))
         ⊎ WriteFailed (failures W.faults W.unheard world.old) (failures W.faults W.unheard world.new) }
     ensures failed { broken ≡ Broken.Outside → result ≡ 5 }
-    ensures answers { result ≤ 7 }
+    ensures answers { result ≤ 10 }
     ensures calls { Runs W.told W.journal W.standing world.old world.new
         (TellsBroken broken (failures W.faults W.unheard world.old) (failures W.faults W.unheard world.new) result) }
 {
@@ -32,7 +32,7 @@ pub fn tell_broken<W: World>(world: &mut W, broken: Broken) -> u8
 pub fn tell_ending<W: World>(world: &mut W, ended: &Ended) -> u8
     ensures calm { (result ≡ 5 → ⊥) → W.faults world.new ≡ W.faults world.old }
     ensures outside { result ≡ 5 → WriteFailed (failures W.faults W.unheard world.old) (failures W.faults W.unheard world.new) }
-    ensures answers { result ≤ 7 }
+    ensures answers { result ≤ 10 }
     ensures calls { Runs W.told W.journal W.standing world.old world.new
         (TellsEnding ended.now (failures W.faults W.unheard world.old) (failures W.faults W.unheard world.new) result) }
 {

@@ -6,12 +6,11 @@ ghost use Rattle.tsl_world.specs.Runs.{Grows};
 ghost use Rattle.tsl_world.specs.Seen.{seen};
 ghost use Rattle.tsl_world.specs.Standing.{at_first};
 ghost use Rattle.tessla_cli.specs.Completeness.{IsComplete};
-ghost use Rattle.tessla_cli.specs.Conduct.{OpensAsAsked, MakesNothing, TakesInTurn, StopsAtEnds, StopsAtLimit, ReadsPieces};
+ghost use Rattle.tessla_cli.specs.Conduct.{OpensAsAsked, MakesAsAsked, MakesLast, TakesInTurn, StopsAtEnds, StopsAtLimits, ReadsPieces};
 ghost use Rattle.tessla_cli.specs.Conduct.{GoesOnAtReads, IsPartlyDue, StopsAtFailures, WritesLast};
 ghost use Rattle.tessla_cli.specs.Failures.{SomeFailed, failures};
 ghost use Rattle.tessla_cli.specs.Headline.{IsDueAtReads};
-ghost use Rattle.tessla_cli.specs.Messages.{broken_line};
-ghost use Rattle.tessla_cli.specs.Outcome.{Concludes, EndsWith, IsExact, Tells, TellsFailure};
+ghost use Rattle.tessla_cli.specs.Outcome.{Concludes, EndsWith, IsExact, RanOut, TellsFailure};
 ghost use Rattle.tessla_cli.specs.Unseen.{NoUpdateIsSeen};
 
 use crate::run::run;
@@ -26,7 +25,7 @@ fn conclude<W: World>(alloc: Global, words: &Words, world: &mut W) -> u8
     requires { W.standing world.old ≡ at_first }
     ensures calm { (result ≡ 5 → ⊥) → W.faults world.new ≡ W.faults world.old }
     ensures outside { result ≡ 5 → SomeFailed (failures W.faults W.unheard world.old) (failures W.faults W.unheard world.new) }
-    ensures answers { result ≤ 7 }
+    ensures answers { result ≤ 10 }
     ensures calls { Grows W.told W.journal world.old world.new
         (Concludes (command_of words.now) (failures W.faults W.unheard world.old) (failures W.faults W.unheard world.new) result) }
 {
@@ -44,62 +43,72 @@ fn conclude<W: World>(alloc: Global, words: &Words, world: &mut W) -> u8
 ///   instants, from 1 to 10^12, `--bytes B` that of the bytes of the trace, from 1 to 2^40, and with `--strict` a line is refused whose
 ///   name is no input's. With `--stats` it is told at the end how many elements each update has copied. Each stands anywhere after `run`,
 ///   at most once, as `--name V` or `--name=V`.
+/// - `exec FILE TRACE` does so by the code that FILE spells, with the same options. Nothing trusts who wrote FILE: it is read and checked
+///   first, and what is due is said by the solutions of its system.
 /// - `check SPEC` writes `ok E U`, how many equations and how many updates run.
 /// - `flat SPEC` writes the running equations and the outputs.
 /// - `show SPEC` writes for each running update whether it happens in place, or why it copies.
 /// - `code SPEC` writes the register code.
+/// - `slice SPEC NAME` writes the equations that the output printed under NAME can depend on, and that output, as `flat` does.
+/// - `compile SPEC FILE` makes FILE and writes the code into it as bytes. FILE is made last of all, and a file that is there is replaced.
 /// - `gen KIND N` writes the sample trace with N lines, from 1 to 1,000,000. KIND is `seen` or `copy`.
 /// - `bench KIND N` compiles the specification of that kind and runs it over that trace. It writes the lines `events N`, `instants X`,
 ///   `bytes Y` and `copied Z`: how many instants ran, how many bytes of text are due, and how many elements the updates copied together.
 ///
 /// The answer is the status: 0 where all was done, 1 where a fault is closed, 2 where the words are not accepted, 3 where the
-/// specification is refused, 4 where a line of the trace is, 5 where a call of the outside failed, 6 where memory ran out, and
-/// 7 where the limit of instants was passed. Words are not accepted, and nothing is opened, where the command is another, SPEC, KIND
-/// or N is left out, KIND is another, a further name stands, an option is unknown, stands twice or has no value, or a number is none
-/// or past its limits. Each status but 0 is told by one line on the standard error. With `--stats` and status 0, 1, 4 or 7 the line
+/// specification is refused, 4 where a line of the trace is, 5 where a call of the outside failed, 6 where memory ran out,
+/// 7 where the limit of instants was passed, 9 where the bytes of the code are more than 2^30 or FILE has no code that may run, and 10
+/// where no output is printed under NAME. At 5 alone the FILE of `compile` may be there without all of its bytes, and at each other status
+/// but 0 it is not made. Words are not accepted, and nothing is opened, where the command is another, SPEC, NAME, FILE, KIND or N is left
+/// out, KIND is another, a further name stands, an option is unknown, stands twice or has no value, or a number is none or past its
+/// limits. Each status but 0 is told by one line on the standard error. With `--stats` and status 0, 1, 4 or 7 the line
 /// `stats NAME LINE:COLUMN copied N` of each running update, by number, stands before it.
 ///
 /// The clauses speak of the part of the journal that this call adds, where the world is told at its exit.
 pub fn tessla<W: World>(alloc: Global, words: &Words, world: &mut W) -> u8
     requires { W.standing world.old ≡ at_first }
 
-    // What is opened, read and written, and in which order.
+    // What is opened, made, read and written, and in which order.
     ensures opens { Grows W.told W.journal world.old world.new (OpensAsAsked (command_of words.now)) }
-    ensures makes { Grows W.told W.journal world.old world.new MakesNothing }
+    ensures makes { Grows W.told W.journal world.old world.new (MakesAsAsked (command_of words.now)) }
+    ensures makes_last { Grows W.told W.journal world.old world.new (MakesLast (command_of words.now)) }
     ensures in_turn { Grows W.told W.journal world.old world.new (TakesInTurn (command_of words.now)) }
     ensures writes_last { Grows W.told W.journal world.old world.new (WritesLast (command_of words.now)) }
     ensures ends { Grows W.told W.journal world.old world.new StopsAtEnds }
-    ensures spec_limit { Grows W.told W.journal world.old world.new StopsAtLimit }
+    ensures limits { Grows W.told W.journal world.old world.new StopsAtLimits }
     ensures pieces { Grows W.told W.journal world.old world.new ReadsPieces }
 
     // What is done after a call that failed: a write to Err tells it, and nothing follows where that one failed.
     ensures stops { Grows W.told W.journal world.old world.new StopsAtFailures }
 
-    // Before each read of the trace, what was given to Out is the text that is due of the bytes taken so far, and nothing ends the run.
+    // Before each read of the trace, what was given to Out is the text that is due of the bytes taken so far, and nothing ends the run. It
+    // is due by the meaning of the specification, or by the solutions of the system that the code file spells.
     ensures due { Grows W.told W.journal world.old world.new (IsDueAtReads (command_of words.now)) }
     ensures goes_on { Grows W.told W.journal world.old world.new (GoesOnAtReads (command_of words.now)) }
 
-    // Whatever the status, what was given to Out begins the text that is due of all that was taken, or that the words ask to print.
+    // Whatever the status, what was given to a channel begins the text that is due there of all that was taken, or that the words ask
+    // for.
     ensures partly { Grows W.told W.journal world.old world.new (λ part. IsPartlyDue (command_of words.now) (seen part)) }
 
-    // Over the closed times of the trace that was taken, the register machine by the plan that is taken: no update in place copies an
-    // element or changes a register that is still read. That the engine runs as this machine does is said of the engine, and not here.
+    // Over the closed times of the trace that was taken, the register machine by the plan that is taken, or by that of the code file: no
+    // update in place copies an element or changes a register that is still read. That the engine runs as this machine does is said of
+    // the engine, and not here.
     ensures unseen { Grows W.told W.journal world.old world.new (λ part. NoUpdateIsSeen (command_of words.now) (seen part)) }
 
-    // Each status but 5 and 6 is that of an ending, with its cause and what it leaves on Out and Err.
+    // Each status but 5 and 6 is that of an ending, with its cause, what was made, and what it leaves on each channel.
     ensures ended { (result ≡ 5 → ⊥) → (result ≡ 6 → ⊥) → Grows W.told W.journal world.old world.new
         (EndsWith (command_of words.now) result) }
     ensures failed { result ≡ 5 → SomeFailed (failures W.faults W.unheard world.old) (failures W.faults W.unheard world.new) }
     ensures failed_told { result ≡ 5 → Grows W.told W.journal world.old world.new
         (TellsFailure (command_of words.now) (failures W.faults W.unheard world.old) (failures W.faults W.unheard world.new)) }
-    ensures memory { result ≡ 6 → Grows W.told W.journal world.old world.new (Tells (broken_line Broken.Memory)) }
+    ensures memory { result ≡ 6 → Grows W.told W.journal world.old world.new RanOut }
     ensures calm { (result ≡ 5 → ⊥) → W.faults world.new ≡ W.faults world.old }
     ensures exact { Grows W.told W.journal world.old world.new (λ part. IsExact (command_of words.now) result (seen part)) }
 
     // Where the outside did not fail, what nothing stands against is done whole, or memory ran out.
     ensures complete { W.faults world.new ≡ W.faults world.old → W.faults world.old < 2 ^ 64 - 1
         → Grows W.told W.journal world.old world.new (λ part. IsComplete (command_of words.now) result (seen part)) }
-    ensures answers { result ≤ 7 }
+    ensures answers { result ≤ 10 }
 {
     conclude(alloc, words, world)
 }

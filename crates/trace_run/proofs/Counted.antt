@@ -1,23 +1,26 @@
 -- The statistics by the engine's ledger are those of what the updates copy.
-use Rattle.std.proofs.Common.{◌≡◌, ℕ, Bool, true, List, [], ◌∷◌, ◌++◌, refl, sym, ◌∙◌, inl, inr}
+use Rattle.std.proofs.Common.{◌≡◌, ℕ, Bool, true, List, [], ◌∷◌, ◌++◌, refl, sym, ap, subst, ◌∙◌, inl, inr}
 use Rattle.std.proofs.lemmas.Bool.{cases_Bool}
 use Rattle.std.specs.Prelude.{IsTrue, if◌then◌else◌, slice_index}
 use Rattle.std.specs.List.{filter, flat_map}
-use Rattle.alias_rules.specs.Fine.{IsTakenPlan}
 use Rattle.flat_core.specs.Case.{Streams}
 use Rattle.flat_core.specs.System.{System, numbers}
 use Rattle.monitor_run.specs.inner.State as engine
 use Rattle.flat_core.specs.Updates.{is_running_update}
+use Rattle.register_code.specs.Code.{Code}
 use Rattle.register_machine.specs.Copied.{copied}
 use Rattle.trace_monitor.specs.Counted.{copied_below}
 use Rattle.trace_monitor.specs.declared.ending.RunEnding.{RunEnding}
 use Rattle.trace_monitor.specs.declared.options.Options.{Options}
 use Rattle.trace_monitor.specs.Due.{SolvesClosed}
+use Rattle.trace_monitor.specs.Ending.{InAll}
 use Rattle.tsl_world.specs.Journal.{taken, ended}
 use Rattle.tsl_world.specs.declared.outside.Did.{Did}
 use Rattle.tsl_world.specs.declared.outside.Slot.TheVariants.{Trace}
 use Rattle.trace_run.specs.Effects.{WatchEnds}
+use Rattle.trace_run.specs.Program.{IsCodeOf, Program}
 use Rattle.trace_run.specs.Statistics.{AreStatistics, counted_text, statistics_text, update_line}
+use Rattle.trace_run.proofs.CanBeRun.{code_system}
 
 -- texts of what is the same for all that pass
 texts_same : (P : ℕ → Bool) (f g : ℕ → List ℕ) → ((u : ℕ) → IsTrue (P u) → f u ≡ g u) → (xs : List ℕ) → flat_map f (filter P xs) ≡ flat_map g (filter P xs)
@@ -29,18 +32,19 @@ texts_same P f g same (x ∷ xs) = elim (cases_Bool (P x)) [
   | inr fails ↦ (λ k. flat_map f (if fails k then x ∷ filter P xs else filter P xs)) ∙ texts_same P f g same xs ∙ sym (λ k. flat_map g (if fails k then x ∷ filter P xs else filter P xs))
 ]
 
--- what is told of a run that has ended so
-pub statistics_meant : (s : System) (o : Options) (e : engine.State) → IsTakenPlan s e.in_place e.order → (how : RunEnding) (part : List Did) (text : List ℕ) → WatchEnds s o e how part → text ≡ counted_text s e true
-    → AreStatistics s o (taken Trace part) (ended Trace part) how text
-statistics_meant s o e taken_plan how part text w is = record {
-  set = e.in_place;
-  order = e.order;
-  taken = taken_plan;
-  is = record { solved = w.due.solved; each = each };
+-- what is told of a run that has ended so, by the code of a program
+pub statistics_meant : (p : Program) (c : Code) → IsCodeOf p c → (o : Options) (e : engine.State) → e.in_place ≡ c.in_place → (how : RunEnding) (part : List Did) (text : List ℕ) → WatchEnds c.system o e how part
+    → text ≡ counted_text c.system e true → AreStatistics p o (taken Trace part) (ended Trace part) how text
+statistics_meant p c is_code o e set how part text w is = record {
+  code = c;
+  is_code = is_code;
+  is = subst (λ (s : System). InAll s o (taken Trace part) (ended Trace part) (λ z. text ≡ statistics_text s (λ u. copied s c.in_place z u (copied_below s o (taken Trace part) (ended Trace part) how)))) (code_system p c is_code)
+      (record { solved = w.due.solved; each = each });
 }
   where
-    each : (z : Streams) → SolvesClosed s o (taken Trace part) (ended Trace part) z → text ≡ statistics_text s (λ u. copied s e.in_place z u (copied_below s o (taken Trace part) (ended Trace part) how))
+    each : (z : Streams) → SolvesClosed c.system o (taken Trace part) (ended Trace part) z
+        → text ≡ statistics_text c.system (λ u. copied c.system c.in_place z u (copied_below c.system o (taken Trace part) (ended Trace part) how))
     each z zs =
-        let bound = copied_below s o (taken Trace part) (ended Trace part) how in
-        is ∙ texts_same (is_running_update s) (λ u. update_line s u (slice_index e.ledger u)) (λ u. update_line s u (copied s e.in_place z u bound))
-        (λ u runs k. update_line s u (w.counted.ledger z zs u runs k)) (numbers s)
+        let bound = copied_below c.system o (taken Trace part) (ended Trace part) how in
+        is ∙ texts_same (is_running_update c.system) (λ u. update_line c.system u (slice_index e.ledger u)) (λ u. update_line c.system u (copied c.system c.in_place z u bound))
+        (λ u runs. ap (update_line c.system u) (w.counted.ledger z zs u runs ∙ ap (λ (l : List ℕ). copied c.system l z u bound) set)) (numbers c.system)

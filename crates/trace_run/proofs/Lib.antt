@@ -4,7 +4,9 @@ pub mod Writing
 pub mod Grown
 pub mod TypedLines
 pub mod Unseen
+pub mod CanBeRun
 pub mod Meaning
+pub mod Programs
 pub mod Causes
 pub mod WholeTrace
 pub mod Counted

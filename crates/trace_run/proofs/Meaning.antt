@@ -1,7 +1,6 @@
 -- What the system that is run says of a trace, the specification itself says.
-use Rattle.std.proofs.Common.{◌≡◌, ℕ, Bool, false, List, ◌∙◌, ap, sym, subst}
+use Rattle.std.proofs.Common.{◌≡◌, ℕ, Bool, List, ◌∙◌, ap, sym, subst}
 use Rattle.lift_func.specs.declared.fault.FaultKind.{FaultKind}
-use Rattle.monitor_run.specs.inner.State as engine
 use Rattle.flat_core.specs.Case.{Streams}
 use Rattle.flat_core.specs.Ending.{EndsInFault}
 use Rattle.flat_core.specs.Line.{Line}
@@ -18,19 +17,13 @@ use Rattle.trace_monitor.specs.declared.ending.RunEnding.{RunEnding}
 use Rattle.trace_monitor.specs.declared.ending.RunEnding.TheVariants as run
 use Rattle.trace_monitor.specs.declared.options.Options.{Options}
 use Rattle.trace_monitor.specs.Due.{IsDue, SolvesClosed, bound_in, lines_in, refused_in}
-use Rattle.trace_monitor.specs.Ending.{GoesOn, IsQuiet}
+use Rattle.trace_monitor.specs.Ending.{IsQuiet}
 use Rattle.trace_monitor.specs.Next.{IsPlaceOf, EndsBy}
 use Rattle.trace_reader.specs.Closed.{closed_below}
 use Rattle.trace_reader.specs.Reading.{Reading, reading}
 use Rattle.trace_reader.proofs.InputLemmas.{others_leave_reading}
 use Rattle.tsl_value.specs.declared.place.Place.{Place}
-use Rattle.tsl_world.specs.Journal.{given, taken, ended}
-use Rattle.tsl_world.specs.Seen.{seen}
-use Rattle.tsl_world.specs.declared.outside.Channel.TheVariants.{Out}
-use Rattle.tsl_world.specs.declared.outside.Did.{Did}
-use Rattle.tsl_world.specs.declared.outside.Slot.TheVariants.{Trace}
-use Rattle.trace_run.specs.Meant.{BeginsAsMeant, EndsAsMeant, GoesOnAsMeant, IsDueAsMeant, IsQuietAsMeant, WatchEndsAsMeant, bound_meant, lines_meant, refused_meant}
-use Rattle.trace_run.specs.Effects.{BeginsDue, WatchEnds}
+use Rattle.trace_run.specs.Meant.{EndsAsMeant, IsDueAsMeant, IsQuietAsMeant, bound_meant, lines_meant, refused_meant}
 use Rattle.trace_run.proofs.TypedLines.{typed_read}
 
 -- for a source that is compiled to this system
@@ -68,7 +61,7 @@ module _ (source : List ℕ) (items : List tree.Item) (s : System) (o : Options)
         to_meant (λ l b. IsDueText items l b o.instants text)
         (subst (λ (t : List ℕ). IsDueText items lines bound o.instants t) (sym (due.is z zs)) (says z zs).text)
 
-    quiet_meant : IsQuiet s o bytes ended → IsQuietAsMeant items o bytes ended
+    pub quiet_meant : IsQuiet s o bytes ended → IsQuietAsMeant items o bytes ended
     quiet_meant quiet = let (z, zs) = quiet.solved in to_meant (λ l b. QuietIsMeant items l b o.instants) ((says z zs).quiet (quiet.each z zs))
 
     fault_meant : (t i : ℕ) (kind : FaultKind) (place : Place) (z : Streams) → SolvesClosed s o bytes ended z → IsPlaceOf s i place → EndsInFault s lines z bound o.instants t i kind
@@ -78,7 +71,7 @@ module _ (source : List ℕ) (items : List tree.Item) (s : System) (o : Options)
       subst (λ (p : Place). IsFaultNamed s lines bound t p kind) at.place_is ((says z zs).named t i kind at.at at.is fault),
     )
 
-    ends_meant : (how : RunEnding) → EndsBy s o bytes ended how → EndsAsMeant items s o bytes ended how
+    pub ends_meant : (how : RunEnding) → EndsBy s o bytes ended how → EndsAsMeant items s o bytes ended how
     ends_meant run.Done cause = (cause.0, sym refused_alike ∙ cause.1, quiet_meant cause.2)
     ends_meant (run.Trace fault) cause = (sym refused_alike ∙ cause.0, quiet_meant cause.1)
     ends_meant (run.Fault time kind place) (i, at, faulted) =
@@ -86,15 +79,3 @@ module _ (source : List ℕ) (items : List tree.Item) (s : System) (o : Options)
         to_meant (λ l b. FaultTimeIsMeant items l b o.instants time × IsFaultNamed s l b time place kind) (fault_meant time i kind place z zs at (faulted.each z zs))
     ends_meant (run.Limit count time) cause =
         let (z, zs) = cause.1.solved in (cause.0, to_meant (λ l b. LimitIsMeant items l b o.instants time) ((says z zs).limited time (cause.1.each z zs)))
-
-  pub goes_on_meant : (bytes : List ℕ) → GoesOn s o bytes → GoesOnAsMeant items o bytes
-  goes_on_meant bytes goes_on = record { accepted = sym (refused_alike bytes false) ∙ goes_on.accepted; quiet = quiet_meant bytes false goes_on.quiet }
-
-  pub begins_meant : (part : List Did) → BeginsDue s o part → BeginsAsMeant items o (seen part)
-  begins_meant part b = record { text = b.text; due = due_meant (taken Trace part) (ended Trace part) b.text b.due; begins = b.begins }
-
-  pub watch_ends_meant : (e : engine.State) (how : RunEnding) (part : List Did) → WatchEnds s o e how part → WatchEndsAsMeant items s o how (seen part)
-  watch_ends_meant e how part w = record {
-    due = due_meant (taken Trace part) (ended Trace part) (given Out part) w.due;
-    ends = ends_meant (taken Trace part) (ended Trace part) how w.cause;
-  }

@@ -1,5 +1,5 @@
 -- No update in place is seen, by the laws of the register machine.
-use Rattle.std.proofs.Common.{◌≡◌, ℕ, suc, ◌+◌, ◌-◌, ◌<◌, ◌≤◌, ◌^◌, Bool, true, List, [], ◌∷◌, length, min, ap, ◌∙◌, arith}
+use Rattle.std.proofs.Common.{◌≡◌, ℕ, suc, ◌+◌, ◌-◌, ◌<◌, ◌≤◌, ◌^◌, Bool, true, List, [], ◌∷◌, length, min, ap, refl, sym, subst, ◌∙◌, arith}
 use Rattle.std.proofs.lemmas.List.{length-map}
 use Rattle.std.specs.Prelude.{◌&&◌, IsTrue, if◌then◌else◌, is_none, max}
 use Rattle.std.specs.List.{AllByRecursion}
@@ -21,14 +21,18 @@ use Rattle.register_machine.specs.Stands.{IsGiven}
 use Rattle.register_machine.proofs.LaterRuns.{runs_on}
 use Rattle.register_machine.proofs.Shown.{counts, exists, goes_on, leaves, shows}
 use Rattle.compiled_meaning.specs.Compiled.{Compiles}
+use Rattle.compiled_meaning.proofs.Readiness.{ready_of}
+use Rattle.flat_core.specs.WellFormed.{IsWellFormed}
+use Rattle.register_code.specs.Code.{Code, IsCode}
 use Rattle.syntax_tree.specs.Tree as tree
 use Rattle.trace_monitor.specs.declared.options.Options.{Options}
-use Rattle.trace_monitor.specs.Due.{bound_in, lines_in}
+use Rattle.trace_monitor.specs.Due.{SolvesClosed, bound_in, lines_in}
 use Rattle.trace_monitor.specs.Ending.{InAll}
 use Rattle.trace_reader.specs.inner.Laws.{IsProperLine}
 use Rattle.trace_reader.specs.Reading.{reading}
 use Rattle.trace_reader.proofs.LineLemmas.{reading_proper}
-use Rattle.trace_run.specs.Unseen.{RunsUnseen, UpdatesUnseen}
+use Rattle.trace_run.specs.Program.{IsCodeOf, coded, specified}
+use Rattle.trace_run.specs.Unseen.{RunsUnseen, UpdatesUnseen, plan_of}
 use Rattle.trace_run.proofs.TypedLines.{typed_read}
 
 -- ---- a system that is run is whole
@@ -104,18 +108,46 @@ module _ (source : List ℕ) (items : List tree.Item) (s : System) (o : Options)
   whole : IsFlat s
   whole = flat source items s c
 
-  pub updates_unseen : InAll s o bytes is_end (λ z. UpdatesUnseen s (lines_in s o bytes is_end) (bound_in s o bytes is_end) z)
-  updates_unseen = record {
+  -- the code by the plan that is taken is one
+  one_code : (a b : Code) → IsCodeOf (specified items s) a → IsCodeOf (specified items s) b → a ≡ b
+  one_code a b is too =
+      let one = one_plan s a.in_place a.order b.in_place b.order is.1 too.1 in
+      λ k. record { system = (is.0 ∙ sym too.0) k; in_place = one.set_is k; order = one.order_is k }
+
+  by_code : (z : Streams) → SolvesClosed s o bytes is_end z → (d : Code) → IsCodeOf (specified items s) d → RunsUnseen s (plan_of d) (lines_in s o bytes is_end) (bound_in s o bytes is_end) z
+  by_code z zs d is = runs_unseen s whole (plan_of d) (lines_in s o bytes is_end) (bound_in s o bytes is_end) z record {
+    flat = whole;
+    fine = taken_is_fine s d.in_place d.order f.proper f.outputs_run f.well_formed is.1;
+    typed_lines = typed_read s o bytes is_end;
+    solves = zs;
+    small = bound_small s o bytes is_end few;
+  }
+
+  pub specified_unseen : InAll s o bytes is_end (λ z. UpdatesUnseen (specified items s) (lines_in s o bytes is_end) (bound_in s o bytes is_end) z)
+  specified_unseen = record {
     solved = f.solved (inputs_of (lines_in s o bytes is_end)) (bound_in s o bytes is_end);
     each = λ z zs. record {
-      some_plan = some_plan s f.proper f.outputs_run f.well_formed;
-      one_plan = λ set order other others first second. let one = one_plan s set order other others first second in (one.set_is, one.order_is);
-      each = λ set order taken_plan. runs_unseen s whole (record { in_place = set; order = order }) (lines_in s o bytes is_end) (bound_in s o bytes is_end) z record {
-        flat = whole;
-        fine = taken_is_fine s set order f.proper f.outputs_run f.well_formed taken_plan;
-        typed_lines = typed_read s o bytes is_end;
-        solves = zs;
-        small = bound_small s o bytes is_end few;
-      };
+      some_code = λ none. some_plan s f.proper f.outputs_run f.well_formed (λ set order taken_plan. none (record { system = s; in_place = set; order = order }) (refl, taken_plan));
+      one_code = one_code;
+      each = by_code z zs;
+    };
+  }
+
+-- for code that can be run
+module _ (c : Code) (is_code : IsCode c) (good : IsWellFormed c.system) (o : Options) (few : o.until < 2 ^ 63) (bytes : List ℕ) (is_end : Bool) where
+  pub coded_unseen : InAll c.system o bytes is_end (λ z. UpdatesUnseen (coded c) (lines_in c.system o bytes is_end) (bound_in c.system o bytes is_end) z)
+  coded_unseen = record {
+    solved = (ready_of c.system is_code.is_flat good).exists (inputs_of (lines_in c.system o bytes is_end)) (bound_in c.system o bytes is_end);
+    each = λ z zs. record {
+      some_code = λ none. none c refl;
+      one_code = λ a b is too. is ∙ sym too;
+      each = λ d is. subst (λ (e : Code). RunsUnseen c.system (plan_of e) (lines_in c.system o bytes is_end) (bound_in c.system o bytes is_end) z) (sym is)
+          (runs_unseen c.system is_code.is_flat (plan_of c) (lines_in c.system o bytes is_end) (bound_in c.system o bytes is_end) z record {
+            flat = is_code.is_flat;
+            fine = is_code.fine;
+            typed_lines = typed_read c.system o bytes is_end;
+            solves = zs;
+            small = bound_small c.system o bytes is_end few;
+          });
     };
   }

@@ -19,7 +19,12 @@ use Rattle.flat_core.proofs.Uniqueness.{all_with}
 use Rattle.compiled_meaning.specs.Compiled.{Compiles}
 use Rattle.compiled_meaning.specs.inner.Laws.{SaysWhatIsMeant}
 use Rattle.compiled_meaning.specs.Meant.{QuietIsMeant}
+use Rattle.compiled_meaning.specs.inner.Ready.{IsReady}
 use Rattle.compiled_meaning.proofs.Meaning.{compiled_says_what_is_meant}
+use Rattle.compiled_meaning.proofs.Readiness.{ready_of}
+use Rattle.flat_core.proofs.SameMeaning.{happens_alike}
+use Rattle.register_code.specs.Code.{Code}
+use Rattle.trace_monitor.proofs.Ends.{bound_alike}
 use Rattle.syntax_tree.specs.Tree as tree
 use Rattle.trace_monitor.specs.declared.options.Options.{Options}
 use Rattle.trace_monitor.specs.Due.{SolvesClosed, bound_in, lines_in, refused_in}
@@ -30,8 +35,10 @@ use Rattle.trace_reader.specs.Reading.{Reading}
 use Rattle.trace_reader.proofs.LawLemmas.{reading_begins, reading_refused}
 use Rattle.trace_reader.proofs.LineLemmas.{reading_closed, reading_later}
 use Rattle.tsl_world.specs.Begins.{Begins}
-use Rattle.trace_run.specs.Meant.{IsUnhindered}
+use Rattle.trace_run.specs.Means.{IsUnhindered}
+use Rattle.trace_run.specs.Program.{Program, coded, specified}
 use Rattle.trace_run.proofs.Causes.{long, loud, nothing_some}
+use Rattle.trace_run.proofs.CanBeRun.{CanBeRun}
 use Rattle.trace_run.proofs.Meaning.{of_meant, refused_alike, to_meant}
 use Rattle.trace_run.proofs.TypedLines.{typed_read}
 use Rattle.trace_run.proofs.Unseen.{fit}
@@ -80,8 +87,8 @@ none_by : {A : Type 0} (x : Option A) → ((a : A) → x ≡ Some a → ⊥) →
 none_by None never = refl
 none_by (Some a) never = absurd (never a refl)
 
--- for a source that is compiled to this system
-module _ (source : List ℕ) (items : List tree.Item) (s : System) (o : Options) (c : Compiles source items s) (bytes more : List ℕ) where
+-- a beginning of a whole trace, by a system
+module _ (s : System) (o : Options) (bytes more : List ℕ) where
   abbrev whole : List ℕ
   whole = bytes ++ more
 
@@ -106,6 +113,11 @@ module _ (source : List ℕ) (items : List tree.Item) (s : System) (o : Options)
   later : AreFrom low stay.rest
   later = reading_later s o.strict o.bytes bytes more true stay.rest stay.is
 
+  accepted_first : refused_in s o whole true ≡ None → refused_in s o bytes false ≡ None
+  accepted_first none =
+      none_by (refused_in s o bytes false) (λ f is. nothing_some (refused_in s o whole true) f none
+      (ap (λ (r : Reading). r.refused) (reading_refused s o.strict o.bytes bytes more true f is) ∙ is))
+
   module _ (z : Streams) (zs : SolvesClosed s o whole true z) where
     first : SolvesClosed s o bytes false z
     first = ((leaves_earlier s low ls stay.rest later).solves_same z).1 (subst (λ (l : List Line). Solves s (inputs_of l) low z) stay.is (solves_less s (inputs_of ms) low high z le zs))
@@ -113,31 +125,60 @@ module _ (source : List ℕ) (items : List tree.Item) (s : System) (o : Options)
     alike : HappensAlike s low ls z ms z
     alike = subst (λ (l : List Line). HappensAlike s low ls z l z) (sym stay.is) ((leaves_earlier s low ls stay.rest later).happens z)
 
-    all_said : SaysWhatIsMeant items s ms high o.instants z
-    all_said = compiled_says_what_is_meant source items s ms high o.instants z c (typed_read s o whole true) zs
+    bound_first : EndsAtBound s ms z high o.instants → EndsAtBound s ls z low o.instants
+    bound_first ends = ends_before s z ls ms low high o.instants le alike ends
 
-    first_said : SaysWhatIsMeant items s ls low o.instants z
-    first_said = compiled_says_what_is_meant source items s ls low o.instants z c (typed_read s o bytes false) first
+-- for a source that is compiled to this system
+module _ (source : List ℕ) (items : List tree.Item) (s : System) (o : Options) (c : Compiles source items s) (bytes more : List ℕ) where
+  module _ (z : Streams) (zs : SolvesClosed s o (bytes ++ more) true z) where
+    all_said : SaysWhatIsMeant items s (lines_in s o (bytes ++ more) true) (bound_in s o (bytes ++ more) true) o.instants z
+    all_said = compiled_says_what_is_meant source items s (lines_in s o (bytes ++ more) true) (bound_in s o (bytes ++ more) true) o.instants z c (typed_read s o (bytes ++ more) true) zs
 
-    quiet_first : QuietIsMeant items ms high o.instants → QuietIsMeant items ls low o.instants
-    quiet_first quiet = first_said.quiet (ends_before s z ls ms low high o.instants le alike record {
-      no_fault = λ t i kind ends. loud items ms high o.instants t quiet (all_said.fault t i kind ends);
-      no_limit = λ t ends. long items ms high o.instants t quiet (all_said.limited t ends);
+    first_said : SaysWhatIsMeant items s (lines_in s o bytes false) (bound_in s o bytes false) o.instants z
+    first_said = compiled_says_what_is_meant source items s (lines_in s o bytes false) (bound_in s o bytes false) o.instants z c (typed_read s o bytes false) (first s o bytes more z zs)
+
+    quiet_first : QuietIsMeant items (lines_in s o (bytes ++ more) true) (bound_in s o (bytes ++ more) true) o.instants → QuietIsMeant items (lines_in s o bytes false) (bound_in s o bytes false) o.instants
+    quiet_first quiet = first_said.quiet (bound_first s o bytes more z zs record {
+      no_fault = λ t i kind ends. loud items (lines_in s o (bytes ++ more) true) (bound_in s o (bytes ++ more) true) o.instants t quiet (all_said.fault t i kind ends);
+      no_limit = λ t ends. long items (lines_in s o (bytes ++ more) true) (bound_in s o (bytes ++ more) true) o.instants t quiet (all_said.limited t ends);
     })
 
-  pub unhindered_first : IsUnhindered items s o whole true → IsUnhindered items s o bytes false
-  unhindered_first u = let (z, zs) = (fit source items s c).solved (inputs_of ms) high in record {
+  specified_first : IsUnhindered (specified items s) o (bytes ++ more) true → IsUnhindered (specified items s) o bytes false
+  specified_first u = let (z, zs) = (fit source items s c).solved (inputs_of (lines_in s o (bytes ++ more) true)) (bound_in s o (bytes ++ more) true) in record {
     accepted =
-        sym (refused_alike source items s o c bytes false)
-        ∙ none_by (refused_in s o bytes false) (λ f is. nothing_some (refused_in s o whole true) f (refused_alike source items s o c whole true ∙ u.accepted)
-        (ap (λ (r : Reading). r.refused) (reading_refused s o.strict o.bytes bytes more true f is) ∙ is));
+        sym (refused_alike source items s o c bytes false) ∙ accepted_first s o bytes more (refused_alike source items s o c (bytes ++ more) true ∙ u.accepted);
     quiet = to_meant source items s o c bytes false (λ l b. QuietIsMeant items l b o.instants)
-        (quiet_first z zs (of_meant source items s o c whole true (λ l b. QuietIsMeant items l b o.instants) u.quiet));
+        (quiet_first z zs (of_meant source items s o c (bytes ++ more) true (λ l b. QuietIsMeant items l b o.instants) u.quiet));
   }
 
+-- for code whose system can be run
+module _ (c : Code) (ready : IsReady c.system) (o : Options) (bytes more : List ℕ) where
+  coded_first : IsUnhindered (coded c) o (bytes ++ more) true → IsUnhindered (coded c) o bytes false
+  coded_first u =
+      let s = c.system in
+      let (z, zs) = u.quiet.solved in
+      let earlier : EndsAtBound s (lines_in s o bytes false) z (bound_in s o bytes false) o.instants = bound_first s o bytes more z zs (u.quiet.each z zs) in
+      let solves = first s o bytes more z zs in
+      record {
+        accepted = accepted_first s o bytes more u.accepted;
+        quiet = record {
+          solved = (z, solves);
+          each = λ w ws.
+              let same = ready.agree (inputs_of (lines_in s o bytes false)) (bound_in s o bytes false) z w solves ws in
+              bound_alike s (bound_in s o bytes false) o.instants (lines_in s o bytes false) (lines_in s o bytes false) z w
+              (happens_alike s (bound_in s o bytes false) z w ready.proper same (lines_in s o bytes false)) earlier;
+        };
+      }
+
 -- nothing in a whole trace, so nothing in what was taken of it
-pub unhindered_taken : (source : List ℕ) (items : List tree.Item) (s : System) (o : Options) → Compiles source items s → (bytes all : List ℕ) (end : Bool) → Begins bytes all → (end ≡ true → all ≡ bytes)
-    → IsUnhindered items s o all true → IsUnhindered items s o bytes end
-unhindered_taken source items s o c bytes all true begins ends u = subst (λ (l : List ℕ). IsUnhindered items s o l true) (ends refl) u
-unhindered_taken source items s o c bytes all false begins ends u =
-    unhindered_first source items s o c bytes begins.rest (subst (λ (l : List ℕ). IsUnhindered items s o l true) begins.is u)
+module _ (p : Program) (can : CanBeRun p) (o : Options) where
+  unhindered_first : (bytes more : List ℕ) → IsUnhindered p o (bytes ++ more) true → IsUnhindered p o bytes false
+  unhindered_first bytes more u = first_of p can u
+    where
+      first_of : (q : Program) → CanBeRun q → IsUnhindered q o (bytes ++ more) true → IsUnhindered q o bytes false
+      first_of (specified items s) can u = specified_first can.0 items s o can.1 bytes more u
+      first_of (coded c) can u = coded_first c (ready_of c.system can.is_code.is_flat can.well_formed) o bytes more u
+
+  pub unhindered_taken : (bytes all : List ℕ) (end : Bool) → Begins bytes all → (end ≡ true → all ≡ bytes) → IsUnhindered p o all true → IsUnhindered p o bytes end
+  unhindered_taken bytes all true begins ends u = subst (λ (l : List ℕ). IsUnhindered p o l true) (ends refl) u
+  unhindered_taken bytes all false begins ends u = unhindered_first bytes begins.rest (subst (λ (l : List ℕ). IsUnhindered p o l true) begins.is u)

@@ -1,8 +1,8 @@
 -- What a run over a trace does to the outside.
 use Rattle.std.specs.Prelude.{◌≡◌, ℕ, ◌≤◌, Bool, false, List, [], ◌∷◌, length, Result, OnOk, OnErr}
-use Rattle.alias_rules.specs.Fine.{IsTakenPlan}
 use Rattle.flat_core.specs.System.{System}
 use Rattle.monitor_run.specs.inner.State as engine
+use Rattle.register_code.specs.Code.{Code}
 use Rattle.trace_monitor.specs.Counted.{HasCounted}
 use Rattle.trace_monitor.specs.declared.ending.RunEnding.{RunEnding}
 use Rattle.trace_monitor.specs.declared.options.Options.{Options}
@@ -74,11 +74,12 @@ pub data RunsSystem (trace : List ℕ) (s : System) (o : Options) : List Did →
   no_trace : RunsSystem trace s o (NotOpened Trace trace ∷ [])
   watched : (part : List Did) → Watched s o part → RunsSystem trace s o (Opened Trace trace ∷ part)
 
--- and it ends so, by an engine that runs the plan that is taken
-pub data SystemEnds (trace : List ℕ) (s : System) (o : Options) (statistics : Bool) (ran : Ran) : List Did → Type 0 where
+-- and it ends so, by an engine that runs the code
+pub data CodeEnds (trace : List ℕ) (c : Code) (o : Options) (statistics : Bool) (ran : Ran) : List Did → Type 0 where
   ends : (e : engine.State) (part : List Did)
-      → IsTakenPlan s e.in_place e.order
-      → Watched s o part
-      → WatchEnds s o e ran.ending part
-      → ran.statistics ≡ counted_text s e statistics
-      → SystemEnds trace s o statistics ran (Opened Trace trace ∷ part)
+      → e.in_place ≡ c.in_place
+      → e.order ≡ c.order
+      → Watched c.system o part
+      → WatchEnds c.system o e ran.ending part
+      → ran.statistics ≡ counted_text c.system e statistics
+      → CodeEnds trace c o statistics ran (Opened Trace trace ∷ part)

@@ -1,5 +1,5 @@
 -- What is due and how a run stands, by the meaning of the specification itself.
-use Rattle.std.specs.Prelude.{◌≡◌, ℕ, Bool, true, false, List, Option, Some, None}
+use Rattle.std.specs.Prelude.{◌≡◌, ℕ, Bool, true, List, Option, Some, None}
 use Rattle.flat_core.specs.Line.{Line}
 use Rattle.flat_core.specs.System.{System}
 use Rattle.spec_meaning.specs.Inputs.{inputs_alone}
@@ -11,10 +11,6 @@ use Rattle.trace_monitor.specs.declared.ending.RunEnding.TheVariants as run
 use Rattle.trace_monitor.specs.declared.options.Options.{Options}
 use Rattle.trace_monitor.specs.Due.{lines_in, refused_in, bound_in}
 use Rattle.trace_reader.specs.declared.fault.TraceFault.{TraceFault}
-use Rattle.tsl_world.specs.Begins.{Begins}
-use Rattle.tsl_world.specs.Seen.{Seen}
-use Rattle.tsl_world.specs.declared.outside.Channel.TheVariants.{Out}
-use Rattle.tsl_world.specs.declared.outside.Slot.TheVariants.{Trace}
 
 -- By the items of a specification alone: the inputs that they declare are those by which the lines of the trace are read.
 module _ (items : List tree.Item) (o : Options) where
@@ -36,23 +32,6 @@ module _ (items : List tree.Item) (o : Options) where
   abbrev pub IsQuietAsMeant : List ℕ → Bool → Type 0
   IsQuietAsMeant bytes ended = QuietIsMeant items (lines_meant bytes ended) (bound_meant bytes ended) o.instants
 
-  -- a run goes on after these bytes: no line is refused either
-  pub record GoesOnAsMeant (bytes : List ℕ) : Type 0 where
-    pub accepted : refused_meant bytes false ≡ None
-    pub quiet : IsQuietAsMeant bytes false
-
-  -- what was given to Out begins the text that is due of all that was taken
-  pub record BeginsAsMeant (x : Seen) : Type 0 where
-    pub text : List ℕ
-    pub due : IsDueAsMeant (x.taken Trace) (x.ended Trace) text
-    pub begins : Begins (x.given Out) text
-
--- Nothing in these bytes of a trace ends a run before its end: no line is refused, no fault is closed, and no more instants are closed
--- than may be.
-pub record IsUnhindered (items : List tree.Item) (s : System) (o : Options) (bytes : List ℕ) (ended : Bool) : Type 0 where
-  pub accepted : refused_meant items o bytes ended ≡ None
-  pub quiet : IsQuietAsMeant items o bytes ended
-
 -- With the flat system of the items once it is simplified. Of it the place and the kind of a fault are taken, and nothing else.
 --
 -- The time of a fault is that of the meaning, and its place and kind are those that the system names. These can differ. Take
@@ -69,8 +48,3 @@ module _ (items : List tree.Item) (s : System) (o : Options) where
       × IsFaultNamed s (lines_meant items o bytes ended) (bound_meant items o bytes ended) time place kind
   EndsAsMeant bytes ended (run.Limit count time) =
       (count ≡ o.instants) × LimitIsMeant items (lines_meant items o bytes ended) (bound_meant items o bytes ended) o.instants time
-
-  -- what was given to Out is all of the text that is due of all that was taken, and the run ends
-  pub record WatchEndsAsMeant (how : RunEnding) (x : Seen) : Type 0 where
-    pub due : IsDueAsMeant items o (x.taken Trace) (x.ended Trace) (x.given Out)
-    pub ends : EndsAsMeant (x.taken Trace) (x.ended Trace) how

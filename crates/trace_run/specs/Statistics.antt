@@ -3,10 +3,10 @@ use Rattle.std.specs.Prelude.{◌≡◌, ℕ, Bool, true, false, List, [], ◌++
 use Rattle.std.specs.Fmt.{decimal}
 use Rattle.std.specs.List.{flat_map}
 use Rattle.event_writer.specs.Text.{place_text}
-use Rattle.alias_rules.specs.Fine.{IsTakenPlan}
 use Rattle.flat_core.specs.declared.equation.Equation.{Equation}
 use Rattle.flat_core.specs.System.{System, equation}
 use Rattle.monitor_run.specs.inner.State as engine
+use Rattle.register_code.specs.Code.{Code}
 use Rattle.register_machine.specs.Copied.{copied}
 use Rattle.program_text.specs.Text.{label_text}
 use Rattle.flat_core.specs.Updates.{running_updates}
@@ -14,6 +14,7 @@ use Rattle.trace_monitor.specs.Counted.{copied_below}
 use Rattle.trace_monitor.specs.declared.ending.RunEnding.{RunEnding}
 use Rattle.trace_monitor.specs.declared.options.Options.{Options}
 use Rattle.trace_monitor.specs.Ending.{InAll}
+use Rattle.trace_run.specs.Program.{IsCodeOf, Program, system_of}
 
 -- that so many elements were copied, with the end of the line
 abbrev pub copied_text : ℕ → List ℕ
@@ -37,11 +38,11 @@ abbrev pub counted_text : System → engine.State → Bool → List ℕ
 counted_text s e true = statistics_text s (λ u. slice_index e.ledger u)
 counted_text s e false = []
 
--- The text is that of the statistics where a run of the system by the plan that is taken ends so, at these bytes of the trace: for all
--- streams that solve the system at the closed times, each running update has copied what it copies at its events up to the last instant
--- that was run, that of a fault included. An update of the listed set copies nothing.
-pub record AreStatistics (s : System) (o : Options) (bytes : List ℕ) (ended : Bool) (how : RunEnding) (text : List ℕ) : Type 0 where
-  pub set : List ℕ
-  pub order : List ℕ
-  pub taken : IsTakenPlan s set order
-  pub is : InAll s o bytes ended (λ z. text ≡ statistics_text s (λ u. copied s set z u (copied_below s o bytes ended how)))
+-- The text is that of the statistics where a run of a program ends so, at these bytes of the trace: for all streams that solve its system
+-- at the closed times, each running update has copied what it copies at its events up to the last instant that was run, that of a fault
+-- included. An update of the set of its code copies nothing.
+pub record AreStatistics (p : Program) (o : Options) (bytes : List ℕ) (ended : Bool) (how : RunEnding) (text : List ℕ) : Type 0 where
+  pub code : Code
+  pub is_code : IsCodeOf p code
+  pub is : InAll (system_of p) o bytes ended (λ z. let s = system_of p in
+      text ≡ statistics_text s (λ u. copied s code.in_place z u (copied_below s o bytes ended how)))

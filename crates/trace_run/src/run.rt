@@ -1,13 +1,12 @@
 // A run over a trace, by the code of a system.
 
 ghost use Rattle.std.specs.Prelude.{◌≡◌, ◌<◌, ◌≤◌, false, length, IfOk, OnOk, IsErrOf};
-ghost use Rattle.alias_rules.specs.Fine.{IsTakenPlan};
 ghost use Rattle.compiled_meaning.specs.inner.Ready.{IsReady};
 ghost use Rattle.trace_reader.specs.declared.limits.TheConstants.{MOST_PIECE_BYTES};
 ghost use Rattle.tsl_world.specs.Standing.{is_open};
 ghost use Rattle.tsl_world.specs.Runs.{Grows};
 ghost use Rattle.tsl_world.specs.World.{RoseBy};
-ghost use Rattle.trace_run.specs.Effects.{RunsSystem, SystemEnds};
+ghost use Rattle.trace_run.specs.Effects.{CodeEnds, RunsSystem};
 ghost use Rattle.trace_run.specs.Limited.{AreLimited};
 
 use crate::broken::Broken;
@@ -43,7 +42,6 @@ pub fn run_code<W: World>(
     requires short { length buf.old ≤ MOST_PIECE_BYTES }
     requires stands { is_open (W.standing world.old) Slot.Trace ≡ false }
     requires ready { IsReady code.now.system }
-    requires taken { IsTakenPlan code.now.system code.now.in_place code.now.order }
     requires limited { AreLimited options }
     ensures ok { OnOk result (W.faults world.new ≡ W.faults world.old) }
     ensures outside { IsErrOf result Broken.Outside → RoseBy 1 (W.faults world.old) (W.faults world.new) }
@@ -51,7 +49,7 @@ pub fn run_code<W: World>(
     ensures heard { W.unheard world.new ≡ W.unheard world.old }
     ensures calls { Grows W.told W.journal world.old world.new (RunsSystem trace.now code.now.system options) }
     ensures ending { IfOk result (λ ran. Grows W.told W.journal world.old world.new
-        (SystemEnds trace.now code.now.system options with_statistics ran)) }
+        (CodeEnds trace.now code.now options with_statistics ran)) }
 {
     let mut monitor = TraceMonitor::new(alloc, code, options)?;
     world.open(Slot::Trace, trace)?;

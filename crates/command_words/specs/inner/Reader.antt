@@ -8,6 +8,7 @@ use Rattle.clap.specs.declared.builder.action.ArgAction.TheVariants.{SetTrue}
 use Rattle.clap.specs.declared.parser.matches.ArgMatches.{ArgMatches}
 use Rattle.clap.specs.declared.parser.matches.Found.{Found}
 use Rattle.command_words.specs.declared.command.Run.{Run}
+use Rattle.command_words.specs.declared.words.Source.{Source}
 use Rattle.command_words.specs.Words.{Name, until_name, instants_name, bytes_name, Flag, strict_flag, stats_flag, Piece, pieces, plains}
 use Rattle.command_words.specs.Words.{values, uses, read, run_by, one_room, run_room, pair_room}
 
@@ -72,10 +73,10 @@ pub record Holds (ps : List Piece) (found : Found) : Type 0 where
 abbrev pub Matches : List (List ℕ) → ArgMatches → Type 0
 Matches words m = (ps : List Piece) × (pieces None words ≡ Some ps) × Holds ps (found_of m)
 
--- the run that the values in the matches ask for
-abbrev pub run_found : Found → Bool → Bool → Option Run
-run_found found strict stats =
-    run_by (first_value found (codes "first")) (first_value found (codes "second")) (first_value found (codes "until"))
+-- the run of a file of a kind that the values in the matches ask for
+abbrev pub run_found : Source → Found → Bool → Bool → Option Run
+run_found from found strict stats =
+    run_by from (first_value found (codes "first")) (first_value found (codes "second")) (first_value found (codes "until"))
     (first_value found (codes "instants")) (first_value found (codes "bytes")) strict stats
 
 -- what the matches say of a flag

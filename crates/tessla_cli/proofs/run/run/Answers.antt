@@ -4,7 +4,7 @@ use Rattle.command_words.specs.Words.{command_of}
 use Rattle.tsl_world.proofs.Runs.{grows_none}
 use Rattle.tsl_world.specs.Runs.{Grows}
 use Rattle.tessla_cli.specs.inner.RunPhases.{DoesAllAsked, DoesAsked}
-use Rattle.tessla_cli.proofs.Facts.{does_none}
+use Rattle.tessla_cli.proofs.Shown.{does_none}
 use Rattle.tessla_cli.proofs.run.run.Goals as goal
 
 pub returns-in_err-command-clause-calls : goal.returns-in_err-command-clause-calls

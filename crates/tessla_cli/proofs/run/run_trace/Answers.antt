@@ -1,36 +1,39 @@
-use Rattle.spec_lexer.specs.declared.limits.TheConstants.{MOST_SOURCE_BYTES}
-use Rattle.tsl_world.specs.declared.outside.Slot.TheVariants.{Spec}
-use Rattle.tessla_cli.specs.inner.RunPhases.{GivesName, HasMonitored, Monitors, ReadsName, RunsSource, RunsSpec, SourceEnds, SpecEnds, unread}
-use Rattle.tessla_cli.proofs.Phases.{joins_ends, joins_runs}
+use Rattle.tessla_cli.specs.Asked.{origin_file}
+use Rattle.tessla_cli.specs.inner.RunPhases.{GivesOrigin, Monitors, OriginEnds, ReadsOrigin, RunEnds, RunsOrigin, RunsSource, most_from, unread}
+use Rattle.tessla_cli.proofs.Phases.{file_ends, file_runs}
 use Rattle.tsl_world.proofs.Runs.{grows_on, grows_weaker}
 use Rattle.tessla_cli.proofs.run.run_trace.Goals as goal
 
-pub returns-in_err-source-clause-calls : goal.returns-in_err-source-clause-calls
-returns-in_err-source-clause-calls g c =
-    grows_weaker g.W.World.told g.W.World.journal c.args.world.now c.read_spec.new.world (ReadsName Spec MOST_SOURCE_BYTES c.args.run.now.spec) (RunsSpec c.args.run.now.spec (λ source. RunsSource (Monitors source c.args.run.now))) (rw c.as_str.ensures at c.read_spec.ensures.calls)
+pub returns-in_err-bytes-clause-calls : goal.returns-in_err-bytes-clause-calls
+returns-in_err-bytes-clause-calls g c =
+    let run = c.args.run.now in
+    grows_weaker g.W.World.told g.W.World.journal c.args.world.now c.read_origin.new.world (ReadsOrigin run.origin) (RunsOrigin run.origin (λ bytes. RunsSource (Monitors bytes run))) c.read_origin.ensures.calls
     (λ p r. unread p r)
 
-pub returns-in_err-run_source-clause-calls : goal.returns-in_err-run_source-clause-calls
-returns-in_err-run_source-clause-calls g c =
-    let source = c.in_ok-source.source in
-    let from_name = rw c.as_str.ensures at c.in_ok-source.ensures.source in
-    let ran = rw c.as_slice.ensures at c.run_source.ensures.calls in
-    grows_on g.W.World.told g.W.World.journal c.args.world.now c.read_spec.new.world c.run_source.new.world (GivesName Spec MOST_SOURCE_BYTES c.args.run.now.spec source) (RunsSource (Monitors source c.args.run.now)) (RunsSpec c.args.run.now.spec (λ source. RunsSource (Monitors source c.args.run.now))) from_name ran
-    (λ p q r t. joins_runs c.args.run.now.spec (λ source. RunsSource (Monitors source c.args.run.now)) source p q r t)
+pub returns-in_err-run_loaded-clause-calls : goal.returns-in_err-run_loaded-clause-calls
+returns-in_err-run_loaded-clause-calls g c =
+    let run = c.args.run.now in
+    let bytes = c.in_ok-bytes.bytes in
+    let ran = rw c.as_slice.ensures at c.run_loaded.ensures.calls in
+    grows_on g.W.World.told g.W.World.journal c.args.world.now c.read_origin.new.world c.run_loaded.new.world (GivesOrigin run.origin bytes) (RunsSource (Monitors bytes run)) (RunsOrigin run.origin (λ bytes. RunsSource (Monitors bytes run)))
+    c.in_ok-bytes.ensures.bytes ran
+    (λ p q r t. file_runs (origin_file run.origin).0 (most_from run.origin) (origin_file run.origin).1 (λ bytes. RunsSource (Monitors bytes run)) bytes p q r t)
 
 pub returns-clause-calls : goal.returns-clause-calls
 returns-clause-calls g c =
-    let source = c.in_ok-source.source in
-    let from_name = rw c.as_str.ensures at c.in_ok-source.ensures.source in
-    let ran = rw c.as_slice.ensures at c.run_source.ensures.calls in
-    grows_on g.W.World.told g.W.World.journal c.args.world.now c.read_spec.new.world c.run_source.new.world (GivesName Spec MOST_SOURCE_BYTES c.args.run.now.spec source) (RunsSource (Monitors source c.args.run.now)) (RunsSpec c.args.run.now.spec (λ source. RunsSource (Monitors source c.args.run.now))) from_name ran
-    (λ p q r t. joins_runs c.args.run.now.spec (λ source. RunsSource (Monitors source c.args.run.now)) source p q r t)
+    let run = c.args.run.now in
+    let bytes = c.in_ok-bytes.bytes in
+    let ran = rw c.as_slice.ensures at c.run_loaded.ensures.calls in
+    grows_on g.W.World.told g.W.World.journal c.args.world.now c.read_origin.new.world c.run_loaded.new.world (GivesOrigin run.origin bytes) (RunsSource (Monitors bytes run)) (RunsOrigin run.origin (λ bytes. RunsSource (Monitors bytes run)))
+    c.in_ok-bytes.ensures.bytes ran
+    (λ p q r t. file_runs (origin_file run.origin).0 (most_from run.origin) (origin_file run.origin).1 (λ bytes. RunsSource (Monitors bytes run)) bytes p q r t)
 
 pub returns-clause-ending : goal.returns-clause-ending
 returns-clause-ending g c =
-    let source = c.in_ok-source.source in
-    let by = c.in_ok-run_source.field-0 in
-    let from_name = rw c.as_str.ensures at c.in_ok-source.ensures.source in
-    let ended = rw c.as_slice.ensures at c.in_ok-run_source.ensures.ending in
-    grows_on g.W.World.told g.W.World.journal c.args.world.now c.read_spec.new.world c.run_source.new.world (GivesName Spec MOST_SOURCE_BYTES c.args.run.now.spec source) (SourceEnds source (HasMonitored source c.args.run.now by) by) (SpecEnds c.args.run.now.spec (λ source. SourceEnds source (HasMonitored source c.args.run.now by) by)) from_name ended
-    (λ p q r t. joins_ends c.args.run.now.spec (λ source. SourceEnds source (HasMonitored source c.args.run.now by) by) source p q r t)
+    let run = c.args.run.now in
+    let bytes = c.in_ok-bytes.bytes in
+    let by = c.in_ok-run_loaded.field-0 in
+    let ended = rw c.as_slice.ensures at c.in_ok-run_loaded.ensures.ending in
+    grows_on g.W.World.told g.W.World.journal c.args.world.now c.read_origin.new.world c.run_loaded.new.world (GivesOrigin run.origin bytes) (RunEnds bytes run by) (OriginEnds run.origin (λ bytes. RunEnds bytes run by))
+    c.in_ok-bytes.ensures.bytes ended
+    (λ p q r t. file_ends (origin_file run.origin).0 (most_from run.origin) (origin_file run.origin).1 (λ bytes. RunEnds bytes run by) bytes p q r t)

@@ -1,14 +1,16 @@
-use Rattle.std.proofs.Common.{ap, Err}
+use Rattle.std.proofs.Common.{◌≡◌, ap, Err}
 use Rattle.trace_run.specs.declared.broken.Broken.{Broken}
+use Rattle.trace_run.specs.declared.broken.Broken.TheVariants.{Memory}
+use Rattle.tessla_cli.specs.Conduct.{MakesNothing}
 use Rattle.tsl_world.proofs.Runs.{grows_on, grows_run}
 use Rattle.tessla_cli.specs.Failures.{failures}
 use Rattle.tessla_cli.specs.Outcome.{Concludes, TellsBroken, TellsEnding}
 use Rattle.command_words.specs.Words.{command_of}
 use Rattle.tessla_cli.specs.inner.RunPhases.{DoesAllAsked, DoesAsked}
-use Rattle.tessla_cli.proofs.Facts.{shows_asked}
+use Rattle.tessla_cli.proofs.Shown.{shows_asked}
 use Rattle.tessla_cli.proofs.Unseen.{no_update_is_seen}
 use Rattle.trace_run.proofs.Grown.{grows_both}
-use Rattle.tessla_cli.proofs.Told.{asked_before, asked_stands, concludes_broken, concludes_ending, calm_broken, failed_broken}
+use Rattle.tessla_cli.proofs.Told.{asked_before, asked_stands, concludes_broken, concludes_ending, calm_broken, failed_broken, grows_unmade}
 use Rattle.tessla_cli.proofs.top.conclude.Goals as goal
 
 pub returns-in-Ok-clause-calls : goal.returns-in-Ok-clause-calls
@@ -34,9 +36,10 @@ returns-in-Err-clause-calls g c =
     let mid = failures g.W.World.faults g.W.World.unheard c.run.new.world in
     let now = failures g.W.World.faults g.W.World.unheard c.tell_broken.new.world in
     let status = c.tell_broken.result in
-    grows_on g.W.World.told g.W.World.journal c.args.world.now c.run.new.world c.tell_broken.new.world (DoesAsked asked) (TellsBroken by mid now status) (Concludes asked before now status) c.run.ensures.calls
+    let unmade = grows_unmade g.W.World.told g.W.World.journal by c.args.world.now c.run.new.world (DoesAsked asked) c.run.ensures.calls (λ e. c.in-Err.ensures.unmade (ap (λ (b : Broken). Err b) e)) in
+    grows_on g.W.World.told g.W.World.journal c.args.world.now c.run.new.world c.tell_broken.new.world (λ p. DoesAsked asked p × (by ≡ Memory → MakesNothing p)) (TellsBroken by mid now status) (Concludes asked before now status) unmade
     (grows_run g.W.World.told g.W.World.journal g.W.World.standing c.run.new.world c.tell_broken.new.world (TellsBroken by mid now status) c.tell_broken.ensures.calls)
-    (λ p q r t. concludes_broken asked unseen by before mid now status p q (λ e. record { all = c.in-Err.ensures.outside (ap (λ (b : Broken). Err b) e); to_err = c.run.ensures.heard }) (λ e. record { all = c.in-Err.ensures.memory (ap (λ (b : Broken). Err b) e); to_err = c.run.ensures.heard }) (shows_asked asked p r) t)
+    (λ p q r t. concludes_broken asked unseen by before mid now status p q (λ e. record { all = c.in-Err.ensures.outside (ap (λ (b : Broken). Err b) e); to_err = c.run.ensures.heard }) (λ e. record { all = c.in-Err.ensures.memory (ap (λ (b : Broken). Err b) e); to_err = c.run.ensures.heard }) r.1 (shows_asked asked p r.0) t)
 
 pub returns-in-Err-clause-calm : goal.returns-in-Err-clause-calm
 returns-in-Err-clause-calm g c =

@@ -1,10 +1,9 @@
-use Rattle.std.proofs.Common.{ℕ, List, ◌∙◌, ap, subst, sym}
-use Rattle.alias_rules.specs.Fine.{IsTakenPlan}
+use Rattle.std.proofs.Common.{◌∙◌, ap, sym}
 use Rattle.flat_core.specs.System.{System}
 use Rattle.tsl_world.specs.declared.outside.Did.TheVariants.{Opened, NotOpened}
 use Rattle.tsl_world.specs.declared.outside.Slot.TheVariants.{Trace}
 use Rattle.trace_run.specs.declared.run.Ran.{Ran}
-use Rattle.trace_run.specs.Effects.{RunsSystem, SystemEnds, Watched, WatchEnds, ends, idle, no_trace, watched}
+use Rattle.trace_run.specs.Effects.{CodeEnds, RunsSystem, Watched, WatchEnds, ends, idle, no_trace, watched}
 use Rattle.trace_run.specs.Statistics.{counted_text}
 use Rattle.tsl_world.proofs.Runs.{grows_none, grows_called, grows_run}
 use Rattle.trace_run.proofs.Grown.{grows_following, grows_both}
@@ -52,13 +51,12 @@ returns-clause-ending g c =
     let ending = rw (c.in_ok-monitor.ensures.system, c.in_ok-monitor.ensures.options) at c.in_ok-ending.ensures.ending in
     let set = c.in_ok-ending.ensures.set ∙ c.in_ok-monitor.ensures.in_place in
     let order = c.in_ok-ending.ensures.order ∙ c.in_ok-monitor.ensures.order in
-    let taken_plan = subst (λ (l : List ℕ). IsTakenPlan s e.in_place l) (sym order) (subst (λ (l : List ℕ). IsTakenPlan s l c.args.code.now.order) (sym set) c.requires.taken) in
     let told = c.in_ok-statistics.ensures ∙ ap (λ (t : System). counted_text t e c.args.with_statistics) c.flat.ensures.flat in
     let both = grows_both g.W.World.told g.W.World.journal c.open.new.self c.watch.new.world (Watched s o) (WatchEnds s o e how)
     (grows_run g.W.World.told g.W.World.journal g.W.World.standing c.open.new.self c.watch.new.world (Watched s o) calls)
     (grows_run g.W.World.told g.W.World.journal g.W.World.standing c.open.new.self c.watch.new.world (WatchEnds s o e how) ending) in
     grows_following g.W.World.told g.W.World.journal c.args.world.now c.open.new.self c.watch.new.world (Opened Trace c.args.trace.now) (λ q. Watched s o q × WatchEnds s o e how q)
-    (SystemEnds c.args.trace.now s o c.args.with_statistics ran) c.open.ensures.told c.in_ok-open.ensures.journal both (λ q w. ends e q taken_plan w.0 w.1 told)
+    (CodeEnds c.args.trace.now c.args.code.now o c.args.with_statistics ran) c.open.ensures.told c.in_ok-open.ensures.journal both (λ q w. ends e q set order w.0 w.1 told)
 
 pub statistics_of-requires : goal.statistics_of-requires
 statistics_of-requires g c = c.in_ok-ending.ensures.engine ∙ c.in_ok-monitor.ensures.system ∙ sym c.flat.ensures.flat
