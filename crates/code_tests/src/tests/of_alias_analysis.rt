@@ -2,7 +2,7 @@
 
 ghost use Rattle.std.specs.Prelude.{IfOk, IsTrue};
 ghost use Rattle.flat_core.specs.Members.{is_in};
-ghost use Rattle.alias_rules.specs.Uses.{AreUpdates, IsUpdate};
+ghost use Rattle.alias_rules.specs.Uses.{AreUpdates, IsUpdate, IsVariable};
 ghost use Rattle.trigger_formulas.specs.inner.Kept.{AreTriggersOf};
 
 use crate::tests::triggers;
@@ -17,6 +17,7 @@ use std::test::Fail;
 use translation_order::steps::Edges;
 use trigger_formulas::triggers::Triggers;
 use tsl_value::ids::EqId;
+use tsl_value::memory::NoMemory;
 
 /// Whether an equation runs and is an update.
 fn is_update(flat: &Flat, id: EqId) -> bool
@@ -58,17 +59,36 @@ fn is_kept(reason: &Option<Reason>, of: u32, in_variable: u32) -> bool {
     }
 }
 
-/// What is answered about the update of the sample.
-#[derive(Drop)]
-struct Answered {
-    roots: EqSet,
-    share: Edges,
-    bypass: EqSet,
-    conflict: Option<Reason>,
-    pairs: Edges,
+/// Whether content begins at its last values, and the update is kept by what has the old content beside it.
+fn has_contents(
+    alloc: Global,
+    graph: &Graph<'_>,
+    set: &EqSet,
+    update: EqId,
+) -> Result<bool, NoMemory>
+    requires variable { IsVariable graph.now update }
+    requires updates { AreUpdates graph.now set.now }
+    requires inside { IsTrue (is_in set.now update) }
+{
+    let roots = graph.roots(alloc, set, update)?;
+    let bypass = graph.bypass(alloc, set, update)?;
+    let conflict = graph.conflict(alloc, set)?;
+    let begins = has_just(&roots, &[3, 4]) && has_just(&bypass, &[3, 4, 5]);
+    Ok(begins && is_kept(&conflict, 8, 3))
 }
 
-fn answers(alloc: Global, flat: &Flat, triggers: &Triggers) -> Result<Answered, Fail>
+/// Whether the stored variables share, and a reader stands before the update, but not what reads after it.
+fn has_pairs(alloc: Global, graph: &Graph<'_>, set: &EqSet) -> Result<bool, NoMemory>
+    requires { AreUpdates graph.now set.now }
+{
+    let share = graph.share(alloc, set)?;
+    let pairs = graph.constraints(alloc, set)?;
+    let shared = share.len() == 4 && has_pair(&share, 2, 3);
+    Ok(shared && has_pair(&pairs, 9, 8) && !has_pair(&pairs, 10, 8))
+}
+
+/// Whether all that is asked about the update of the sample is answered so.
+fn are_answered(alloc: Global, flat: &Flat, triggers: &Triggers) -> Result<bool, Fail>
     requires { AreTriggersOf triggers.now flat.now }
 {
     let graph = Graph::of(alloc, flat, triggers)?;
@@ -77,38 +97,15 @@ fn answers(alloc: Global, flat: &Flat, triggers: &Triggers) -> Result<Answered, 
     if !is_variable(flat, update) {
         return Err(Fail::from("no variable"));
     }
-    Ok(Answered {
-        roots: graph.roots(alloc, &set, update)?,
-        share: graph.share(alloc, &set)?,
-        bypass: graph.bypass(alloc, &set, update)?,
-        conflict: graph.conflict(alloc, &set)?,
-        pairs: graph.constraints(alloc, &set)?,
-    })
-}
-
-fn sample_answers(alloc: Global) -> Result<Answered, Fail> {
-    let flat = sample(alloc)?;
-    let triggers = triggers(alloc, &flat)?;
-    answers(alloc, &flat, &triggers)
-}
-
-#[test]
-fn content_begins_at_last_values(rt: HostRuntime) -> Result<(), Fail> {
-    let answers = sample_answers(rt.alloc())?;
-    assert!(rt; has_just(&answers.roots, &[3, 4]));
-    assert!(rt; has_just(&answers.bypass, &[3, 4, 5]));
-    assert!(rt; is_kept(&answers.conflict, 8, 3));
-    Ok(())
+    Ok(has_contents(alloc, &graph, &set, update)? && has_pairs(alloc, &graph, &set)?)
 }
 
 #[test]
 fn stored_variables_share_and_a_reader_stands_before_the_update(
     rt: HostRuntime,
 ) -> Result<(), Fail> {
-    let answers = sample_answers(rt.alloc())?;
-    assert_eq!(rt; answers.share.len(), 4);
-    assert!(rt; has_pair(&answers.share, 2, 3));
-    assert!(rt; has_pair(&answers.pairs, 9, 8));
-    assert!(rt; !has_pair(&answers.pairs, 10, 8));
+    let flat = sample(rt.alloc())?;
+    let triggers = triggers(rt.alloc(), &flat)?;
+    assert!(rt; are_answered(rt.alloc(), &flat, &triggers)?);
     Ok(())
 }

@@ -1,0 +1,4 @@
+//! From a flat system to the code that runs.
+#![tactic(auto)]
+
+pub mod compile;
