@@ -15,18 +15,24 @@ _tessla_words() {
     _tessla_take < <(compgen -W "$*" -- "$word")
 }
 
+# Takes the specifications, and the folders that they may stand in.
+_tessla_specification() {
+    compopt -o filenames 2>/dev/null
+    _tessla_take < <(compgen -f -X '!*.tsl' -- "$1"; compgen -d -- "$1")
+}
+
 _tessla() {
     local word=${COMP_WORDS[COMP_CWORD]} before=${COMP_WORDS[COMP_CWORD - 1]} command=${COMP_WORDS[1]-}
     COMPREPLY=()
     if [ "$COMP_CWORD" -eq 1 ]; then
-        _tessla_words "$word" run check flat show code gen bench lint test page install package help --help --version
+        _tessla_words "$word" run check flat slice show code compile exec gen bench lint test picture page install package help --help --version
         return
     fi
     case $before in
     --until | --instants | --bytes) return ;;
     esac
     case $command in
-    run)
+    run | exec)
         if [[ $word == -* ]]; then
             _tessla_words "$word" --until --instants --bytes --strict --stats
         else
@@ -34,9 +40,24 @@ _tessla() {
             _tessla_take < <(compgen -f -- "$word")
         fi
         ;;
-    check | flat | show | code | lint)
-        compopt -o filenames 2>/dev/null
-        _tessla_take < <(compgen -f -X '!*.tsl' -- "$word"; compgen -d -- "$word")
+    check | flat | show | code | lint) _tessla_specification "$word" ;;
+    picture)
+        if [[ $word == -* ]]; then
+            _tessla_words "$word" --svg
+        elif [ "$COMP_CWORD" -eq 2 ]; then
+            _tessla_specification "$word"
+        fi
+        ;;
+    slice)
+        if [ "$COMP_CWORD" -eq 2 ]; then _tessla_specification "$word"; fi
+        ;;
+    compile)
+        if [ "$COMP_CWORD" -eq 2 ]; then
+            _tessla_specification "$word"
+        else
+            compopt -o filenames 2>/dev/null
+            _tessla_take < <(compgen -f -- "$word")
+        fi
         ;;
     gen | bench)
         if [ "$COMP_CWORD" -eq 2 ]; then

@@ -35,7 +35,8 @@ def parts_of(text):
 def read(text):
     """The equations by number, and the outputs as pairs of a name and a number."""
     equations, outputs = {}, []
-    for line in text.splitlines():
+    # A literal text may have what other systems end lines with.
+    for line in text.split("\n"):
         if found := EQUATION.match(line):
             number, name, rest = int(found[1]), found[2] or "", found[3]
             equations[number] = Equation(number, name, *parts_of(rest))

@@ -8,7 +8,7 @@ from starts import LAUNCHER, TOP, controls_in, environment
 from talking import write_files
 
 OPTIONS = ("--until", "--instants", "--bytes", "--strict", "--stats")
-COMMANDS = ("run", "check", "flat", "show", "code", "gen", "bench")
+COMMANDS = ("run", "check", "flat", "slice", "show", "code", "compile", "exec", "gen", "bench")
 
 
 def text_of(*names):
@@ -34,6 +34,9 @@ def answers_at_once(starts):
     for word in sorted(os.listdir(os.path.join(TOP, "tools", "words"))):
         found = [f"tessla {word} " in usage.out.decode(), f"\n.B tessla {word}\n" in page, f" {word} " in bash, f"'{word}:" in zsh, f"-a {word} " in fish]
         tried.holds(f"the help, the manual page and the completions have the word {word}", all(found), found)
+    for word in COMMANDS:
+        found = [f" tessla {word} " in usage.out.decode(), f"\n.B {word}\n" in page, f" {word} " in bash, f"'{word}:" in zsh, f"-a {word} " in fish]
+        tried.holds(f"the help, the manual page and the completions have the command {word}", all(found), found)
     for option in OPTIONS:
         name = option[2:]
         found = [option in usage.out.decode(), f"\\-\\-{name}" in page, option in bash, option in zsh, f"-l {name}" in fish]
@@ -62,6 +65,10 @@ def kinds_of_the_manual_page(starts):
     tried.holds("the manual has kinds", len(kinds) > 30)
     for kind in kinds:
         tried.holds(f"the manual page has {kind}", re.search(rf"\b{kind}\b", page))
+    texts = re.findall(r"^\| `([a-zA-Z ]+)` \| ", text_of("docs", "LANGUAGE.md").partition("\n## Refused code files\n")[2].partition("\n## ")[0], re.M)
+    tried.holds("the manual has the texts that refuse code", len(texts) == 5, texts)
+    for text in texts:
+        tried.holds(f"the manual page has {text}", re.search(rf'^\.BR "?{text}"? [,.]$', page, re.M))
     if tried.has("groff"):
         for name in sorted(os.listdir(os.path.join(TOP, "man"))):
             ended = starts.start(["groff", "-man", "-ww", "-Tascii", os.path.join(TOP, "man", name)])
@@ -88,10 +95,17 @@ def completes_in_bash(starts):
     tried.holds("bash completes a command", of_bash(starts, "tessla", "ch") == ["check"])
     tried.holds("bash completes an option", of_bash(starts, "tessla", "run", "q.tsl", "--st") == ["--strict", "--stats"])
     tried.holds("bash completes a specification", of_bash(starts, "tessla", "check", "q") == ["q.tsl"])
+    tried.holds("bash completes a specification of compile", of_bash(starts, "tessla", "compile", "q") == ["q.tsl"])
+    tried.holds("bash completes a file to be made", of_bash(starts, "tessla", "compile", "q.tsl", "fault") == ["fault.trace"])
+    tried.holds("bash completes an option of exec", of_bash(starts, "tessla", "exec", "q.code", "--st") == ["--strict", "--stats"])
+    tried.holds("bash completes a code file", of_bash(starts, "tessla", "exec", "fault") == ["fault.trace"])
+    tried.holds("bash completes a specification of slice", of_bash(starts, "tessla", "slice", "q") == ["q.tsl"])
+    tried.holds("bash completes no output", of_bash(starts, "tessla", "slice", "q.tsl", "q") in ([], [""]))
     tried.holds("bash completes a kind", of_bash(starts, "tessla", "gen", "s") == ["seen"])
     tried.holds("bash completes a word of tools/words", of_bash(starts, "tessla", "li") == ["lint"])
     tried.holds("bash completes a specification of lint", of_bash(starts, "tessla", "lint", "q") == ["q.tsl"])
     tried.holds("bash completes the option of test", of_bash(starts, "tessla", "test", "x", "--") == ["--bless"])
+    tried.holds("bash completes the option of picture", of_bash(starts, "tessla", "picture", "q.tsl", "--") == ["--svg"])
     tried.holds("bash completes no number", of_bash(starts, "tessla", "run", "--until", "1") in ([], [""]))
     folder = os.path.join(starts.room, "named")
     os.mkdir(folder)
@@ -109,13 +123,20 @@ def completes_in_zsh(starts):
     def completed(*words):
         return starts.start(["zsh", "-fc", ZSH, "-", os.path.join(TOP, "completions"), *words]).out.decode()
 
-    words = "run check flat show code gen bench lint test page install package help -- --help --version "
+    words = "run check flat slice show code compile exec gen bench lint test picture page install package help -- --help --version "
     tried.holds("zsh completes a command", completed("tessla", "ch") == words)
     tried.holds("zsh completes an option", re.search("--strict.* --stats.*specification:", completed("tessla", "run", "q.tsl", "--st")))
     tried.holds("zsh completes a specification", completed("tessla", "check", "q") == "files -g *.tsl ")
+    tried.holds("zsh completes a specification of compile", completed("tessla", "compile", "q") == "files -g *.tsl ")
+    tried.holds("zsh completes a file to be made", completed("tessla", "compile", "q.tsl", "f") == "files ")
+    tried.holds("zsh completes an option of exec", re.search("--strict.* --stats.*1:code file:.*2:trace:", completed("tessla", "exec", "q.code", "--st")))
+    tried.holds("zsh completes no code file of run", "code file" not in completed("tessla", "run", "q.tsl", "--st"))
+    tried.holds("zsh completes a specification of slice", completed("tessla", "slice", "q") == "files -g *.tsl ")
+    tried.holds("zsh completes no output", completed("tessla", "slice", "q.tsl", "q") == "")
     tried.holds("zsh completes a kind", completed("tessla", "gen", "s") == "seen copy ")
     tried.holds("zsh completes a specification of lint", completed("tessla", "lint", "q") == "files -g *.tsl ")
     tried.holds("zsh completes a folder", re.search("--bless.*folder:", completed("tessla", "test", "q")))
+    tried.holds("zsh completes the option of picture", re.search("--svg.*specification:", completed("tessla", "picture", "q")))
     tried.holds("zsh completes no number", completed("tessla", "gen", "seen", "1") == "")
 
 
@@ -130,10 +151,17 @@ def completes_in_fish(starts):
     tried.holds("fish completes a command", completed("tessla ch") == ["check"])
     tried.holds("fish completes an option", completed("tessla run q.tsl --st") == ["--stats", "--strict"])
     tried.holds("fish completes a specification", completed("tessla check q") == ["q.tsl"])
+    tried.holds("fish completes a specification of compile", completed("tessla compile q") == ["q.tsl"])
+    tried.holds("fish completes a file to be made", "fault.trace" in completed("tessla compile q.tsl f"))
+    tried.holds("fish completes an option of exec", completed("tessla exec q.code --st") == ["--stats", "--strict"])
+    tried.holds("fish completes a code file", "fault.trace" in completed("tessla exec f"))
+    tried.holds("fish completes a specification of slice", completed("tessla slice q") == ["q.tsl"])
+    tried.holds("fish completes no output", completed("tessla slice q.tsl q") == [])
     tried.holds("fish completes a kind", completed("tessla gen s") == ["seen"])
     tried.holds("fish completes a word of tools/words", completed("tessla li") == ["lint"])
     tried.holds("fish completes a specification of lint", completed("tessla lint q") == ["q.tsl"])
     tried.holds("fish completes the option of test", completed("tessla test x --b") == ["--bless"])
+    tried.holds("fish completes the option of picture", completed("tessla picture q.tsl --") == ["--svg"])
     tried.holds("fish completes no number", completed("tessla gen seen ") + completed("tessla run --until ") == [])
 
 

@@ -135,7 +135,7 @@ def archive_is_right(starts, what, data, time):
     wrong = [it.name for it in infos if it.mode not in ((0o755,) if it.isdir() else (0o644, 0o755)) or not (it.isdir() or it.isfile())]
     tried.holds(f"all in {what} can be read by all and changed by root", not wrong, wrong[:5])
     started = {it.name.rpartition("/")[2] for it in infos if it.isfile() and it.mode == 0o755}
-    tried.holds(f"what is started in {what}", started == {"tessla", "log2trace", "trace2", "messages", "lint", "test", "page"}, started)
+    tried.holds(f"what is started in {what}", started == {"tessla", "log2trace", "trace2", "messages", "lint", "test", "picture", "page"}, started)
     return files
 
 
@@ -244,6 +244,13 @@ def runs(starts, what, prefix):
     tried.holds(f"{what}: check", ended.status == 0 and re.fullmatch(rb"ok [0-9]+ 0\n", ended.out), ended)
     ended = start("show", os.path.join(examples, "seen.tsl"))
     tried.holds(f"{what}: show", ended.status == 0 and ended.out.endswith(b" in place\n"), ended)
+    code = os.path.join(starts.room, "watchdog.code")
+    tried.ended(f"{what}: compile", start("compile", watchdog[0], code), 0, "", "")
+    tried.ended(f"{what}: exec", start("exec", code, watchdog[1]), 0, WATCHDOG, "")
+    ended = start("exec", watchdog[0], TESSLA_TERMINAL="1")
+    tried.holds(f"{what}: a code file that is none", ended.status == 9 and b"  cause:  this is a specification, and no code file\n" in ended.err, ended)
+    ended = start("picture", watchdog[0], "silence")
+    tried.holds(f"{what}: picture", ended.status == 0 and ended.out.startswith(b"digraph tessla {\n") and b"silence" in ended.out, ended)
     tried.ended(f"{what}: lint", start("lint", watchdog[0]), 0, "", "")
     ended = start("test", examples)
     tried.holds(f"{what}: test", ended.status == 0 and re.search(rb"\n[1-9][0-9]* passed, 0 failed\n$", ended.out), ended)

@@ -296,6 +296,18 @@ WORDS = (
     ("chek q.tsl", "there is no command `chek`; the nearest is check", "check SPEC"),
     ("instal x", "there is no command `instal`; the nearest is install", "install PREFIX"),
     ("q.tsl", "`q.tsl` is a file and no command", "run SPEC [TRACE]"),
+    ("slice q.tsl", "slice needs the name of an output after the specification, NAME", "slice SPEC NAME"),
+    ("slice q.tsl q r", "`r` is one word too many for slice", "slice SPEC NAME"),
+    ("slice q.tsl q --strict", "slice takes no options, and `--strict`", "slice SPEC NAME"),
+    ("compile", "compile needs the name of a specification", "compile SPEC FILE"),
+    ("compile q.tsl", "compile needs the name of a file to be made after the specification, FILE", "compile SPEC FILE"),
+    ("compile q.tsl a b", "`b` is one word too many for compile", "compile SPEC FILE"),
+    ("compil q.tsl a", "there is no command `compil`; the nearest is compile", "compile SPEC FILE"),
+    ("exec", "exec needs the name of a file that compile has made", "exec FILE [TRACE]"),
+    ("exec q.code --untill 5", "exec has no option `--untill`; the nearest is --until", "exec FILE [TRACE]"),
+    ("exec q.code --stats=1", "--stats takes no value", "exec FILE [TRACE]"),
+    ("exec a b c", "`c` is one word too many for exec", "exec FILE [TRACE]"),
+    ("exac a", "there is no command `exac`; the nearest is exec", "exec FILE [TRACE]"),
     ("gen sen 5", "`sen` is no kind: it is seen or copy; the nearest is seen", "gen KIND N"),
     ("gen seen 0", "the number of lines is from 1 to 1000000", "gen KIND N"),
 )
@@ -309,6 +321,61 @@ def of_words(starts):
         starts.tried.holds(f"the word that is wrong: {words}", ended.status == 2 and is_told, ended)
     ended = starts.extras("run", f"--{HOSTILE}")
     starts.tried.holds("a hostile word is visible", ended.status == 2 and not controls_in(ended.err) and b"\\x1b]0;title" in ended.err, ended)
+
+
+def of_outputs(starts):
+    """Where no output has a name, it is told what has it, and what outputs there are."""
+    starts.write("named.tsl", "in beat: Events[Int]\ndef gap := beat - last(beat, beat)\nout gap as distance\nout filter(gap, gap > 30) as late\n")
+    kinds = (
+        ("distanse", "no output is called distanse", "the nearest is distance"),
+        ("gap", "gap is declared, and is the name of no output", "write out gap; outputs are distance, late"),
+        ("beat", "beat is declared, and is the name of no output", "write out beat; outputs are distance, late"),
+        ("x\033", "no output is called x\\x1b", "outputs are distance, late"),
+    )
+    for name, cause, helps in kinds:
+        ended = starts.extras("slice", "named.tsl", name)
+        shown = name.replace("\033", "\\x1b")
+        wanted = f"no output {shown}\n  cause:  {cause}\n  remedy: {helps}\n"
+        starts.tried.ended(f"no output of that name: {shown}", ended, 10, "", wanted)
+    with open(os.path.join(starts.room, "named.tsl"), "rb") as given:
+        starts.tried.ended("no output of the standard input", starts.extras("slice", "-", "gap", given=given), 10, "", "no output gap\n")
+
+
+def of_codes(starts):
+    """What a code file is that is refused, and why; of one that runs no place is shown, since its source is elsewhere."""
+    tried = starts.tried
+    tried.ended("a code file is made", starts.extras("compile", "q.tsl", "q.code"), 0, "", "")
+    with open(os.path.join(starts.room, "q.code"), "rb") as opened:
+        code = opened.read()
+    tried.ended("a code file runs", starts.extras("exec", "q.code", given=b"1: i = 5\n"), 0, "1: q = 20\n", "")
+    fault = "2: fault DivideByZero at 2:10\n"
+    explained(starts, "a fault of a code file", starts.extras("exec", "q.code", "fault.trace"), 1, "1: q = 20\n", fault, "divisor")
+    named = "trace 2: wrong value for i\nline.trace:2:2: wrong value for i\n     2: i = x\n"
+    explained(starts, "a refused line of a code file", starts.extras("exec", "q.code", "line.trace"), 4, "", named, "fraction")
+    kinds = (
+        ("empty.code", b"", "the file is empty", "compile SPEC FILE"),
+        ("begun.code", code[:5], "the file ends within its first line", "compile SPEC FILE"),
+        ("cut.code", code[:-1], "something is cut off", "compile SPEC FILE"),
+        ("q.tsl", None, "this is a specification, and no code file", "tessla run"),
+        ("other.code", b"\x7fELF\n\0", "it does not begin as a code file does", "compile SPEC FILE"),
+    )
+    for name, data, cause, helps in kinds:
+        if data is not None:
+            starts.write(name, data)
+        ended = starts.extras("exec", name, "fault.trace")
+        begins = f"code: wrong form\n{name}: wrong form\n  cause:  ".encode()
+        is_told = ended.status == 9 and not ended.out and ended.err.startswith(begins) and cause.encode() in ended.err and helps.encode() in ended.err
+        tried.holds(f"a code file that is refused: {name}", is_told, ended)
+    # The input has the type Bool, and the equation after it divides by it.
+    starts.write("typed.code", code[:14] + b"\2" + code[15:])
+    explained(starts, "a wrong type in a code file", starts.extras("exec", "typed.code", "fault.trace"), 9, "",
+              "code: wrong types in equation 1\ntyped.code: wrong types in equation 1\n", "compile SPEC FILE")
+    ended = starts.extras("exec", "-", "fault.trace", given=b"in i: Events[Int]\n")
+    explained(starts, "a refused code of a pipe", ended, 9, "", "code: wrong form\n", "compile SPEC FILE")
+    ended = starts.extras("check", "q.code")
+    tried.holds("a code file as a specification", ended.status == 3 and ended.err.endswith(b"  remedy: run it by tessla exec\n"), ended)
+    ended = starts.extras("exec", "hostile\033.code")
+    tried.holds("a code file that is absent, of a hostile name", ended.status == 5 and b"  hostile\\x1b.code: No such file" in ended.err, ended)
 
 
 # ---- On a terminal
@@ -352,6 +419,15 @@ def waits(starts):
     for what, words in (("with a trace", ("q.tsl", "fault.trace")), ("that is refused", ("name.tsl",))):
         ended = terminal(starts, "run", *words).end()
         tried.holds(f"a run {what} waits for nothing", b"from the terminal" not in ended.out, ended)
+    starts.plain("compile", "q.tsl", "q.code")
+    started = terminal(starts, "exec", "q.code")
+    tried.holds("a run of a code file that waits says so", started.read(b"ends it\n") and started.shown.startswith(hint), started.shown)
+    started.give(b"1: i = 5\n\x04")
+    tried.holds("and it goes on", started.end().out.endswith(b"1: q = 20\n"), started.shown)
+    started = terminal(starts, "exec", "-")
+    tried.holds("a code file of the terminal", started.read(b"ends it\n") and b"a code file is read from the terminal" in started.shown, started.shown)
+    started.give(b"x\n\x04")
+    tried.holds("and it is refused", started.end().status == 9, started.shown)
     started = terminal(starts, "check", "-")
     tried.holds("a specification of the terminal", started.read(b"ends it\n") and b"the specification is read" in started.shown, started.shown)
     started.give(b"out 1 as x\n\x04")
@@ -406,7 +482,7 @@ def is_soon(starts):
 
 def asked_for(starts):
     """What is added where it is asked for changes nothing of the standard output or the status."""
-    for words in (("run", "q.tsl", "fault.trace"), ("check", "name.tsl"), ("run", "four.tsl", "odd.trace"), ("flat", "q.tsl"), ("gen", "seen", "3")):
+    for words in (("run", "q.tsl", "fault.trace"), ("check", "name.tsl"), ("run", "four.tsl", "odd.trace"), ("flat", "q.tsl"), ("slice", "q.tsl", "q"), ("slice", "q.tsl", "i"), ("gen", "seen", "3")):
         plain, extras = starts.plain(*words), starts.extras(*words)
         same = (plain.status, plain.out) == (extras.status, extras.out) and extras.err.startswith(plain.err)
         starts.tried.holds(f"what is asked for comes below: {' '.join(words)}", same, plain, extras)
@@ -422,6 +498,8 @@ def pointing(starts):
     of_names(starts)
     of_silence(starts)
     of_words(starts)
+    of_outputs(starts)
+    of_codes(starts)
     of_nothing(starts)
     waits(starts)
     colours(starts)

@@ -87,7 +87,14 @@ def names_what_failed(starts):
     tried.ended("an absent specification", starts.extras("check", "absent.tsl"), 5, "", absent)
     tried.ended("an absent trace", starts.extras("run", "q.tsl", "--strict", "absent.tsl"), 5, "", absent)
     tried.ended("a folder", starts.extras("run", "."), 5, "", f"{failed}  .: Is a directory\n")
+    for name, why in (("absent/q.code", "No such file or directory"), (".", "Is a directory"), ("q.tsl/q.code", "Not a directory")):
+        ended = starts.extras("compile", "q.tsl", name)
+        tried.ended(f"a file that can't be made, {name}", ended, 5, "", f"{failed}  {name}: {why}\n")
+    tried.holds("nothing is made for the reason", not os.path.exists(os.path.join(starts.room, "absent")))
+    tried.ended("a specification that is absent, and no file", starts.extras("compile", "absent.tsl", "q.code"), 5, "", absent)
     if os.path.exists("/dev/full"):
+        ended = starts.extras("compile", "q.tsl", "/dev/full")
+        tried.ended("a full device as the file", ended, 5, "", f"{failed}  /dev/full: it cannot be written\n")
         with open("/dev/full", "wb") as full:
             ended = starts.extras("gen", "seen", "5", stdout=full)
         tried.ended("a full device", ended, 5, "", f"{failed}  the standard output: No space left on device\n")

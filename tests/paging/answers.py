@@ -16,8 +16,9 @@ WITH_VALUE = (b"--until", b"--instants", b"--bytes")
 PREVIOUS = "in i: Events[Int]\nout last(i, i) as p\n"
 # A run of many lines may take so many times what the program takes.
 MOST_TIMES = 3
-# The status where a call of the outside failed, which no call of the page does.
+# The status where a call of the outside failed, which no call of the page does but one that makes a file.
 OUTSIDE = 5
+NOTHING_IS_MADE = (OUTSIDE, b"", b"outside: a call failed\n")
 # Cases of the language's limits, which have to be among those that are tried.
 LIMITS = {"as_many_levels_as_may_be", "too_many_levels", "levels_of_braces", "levels_of_brackets", "levels_of_choices", "levels_of_mixed_kinds", "levels_of_prefixes"}
 LIMITS |= {"line_of_65536_bytes", "line_of_65537_bytes", "text_of_65536_bytes", "text_of_65537_bytes"}
@@ -38,12 +39,31 @@ def recipes(page):
         page.judge_same(f"run of {name}", [b"run", b"spec", b"trace", *options], spec, trace)
         for command in (b"check", b"flat", b"show", b"code"):
             page.judge_same(f"{command.decode()} of {name}", [command, b"spec"], spec, b"")
+        output = shown.split(b" = ")[0].split(b": ")[-1]
+        page.judge_same(f"slice of {name}", [b"slice", b"spec", output], spec, b"")
     page.put(recipe="seen")
-    for command in ("flat", "show", "code", "check", "run"):
+    for command in ("flat", "slice", "show", "code", "check", "run"):
         page.put(command=command)
-        words = [command.encode(), b"spec"] + ([b"trace"] if command == "run" else [])
+        words = [command.encode(), b"spec"] + {"run": [b"trace"], "slice": [b"again"]}.get(command, [])
         wanted = page.native(words, read(EXAMPLES, "seen.tsl"), read(EXAMPLES, "seen.trace"))[1].decode()
         page.tally.judge(f"{command} by the menu", "" if page.of("output") == wanted else repr(page.of("output")[:200]))
+    slices(page)
+
+
+def slices(page):
+    """The slice of an output that is named, or of the first one, however that is written."""
+    spec = "-- out of\nin i: Events[Int]\nout last(\n  i, i) as p -- out q\nin j: Events[Int] out j\n"
+    for name, number, output in (("", 2, "p"), ("p", 2, "p"), ("j", 1, "j")):
+        page.put(spec=spec, command="slice", name=name)
+        right = page.of("output").endswith(f"out {output} %{number}\n") and page.of("status").startswith("status 0:")
+        page.tally.judge(f"the slice of `{name}`", "" if right else f"{page.of('status')}: {page.of('output')!r}")
+    page.put(spec="in j: Events[Int] out j", name="")
+    page.tally.judge("the slice of the one output", "" if page.of("output") == "%0 j := Input Int\nout j %0\n" else repr(page.of("output")))
+    for name in ("i", "--strict"):
+        page.put(spec=spec, name=name)
+        right = page.of("status").startswith("status 10: no output has this name") and page.of("message") == f"no output {name}"
+        page.tally.judge(f"the slice of `{name}`, which is no output", "" if right else f"{page.of('status')}: {page.of('message')!r}")
+    page.put(command="run", name="")
 
 
 def names_in(words):
@@ -63,6 +83,9 @@ def names_in(words):
 def texts_of(case, words):
     """The specification and the trace of a case, None for a file that is none."""
     stdin, names = read(case, "stdin"), names_in(words)
+    # The second name of these is that of an output, or of a file that is made.
+    if words and words[0] in (b"slice", b"compile"):
+        names = names[:1]
     spec = (names + [b"-"])[0]
     trace = (names[1:] + [b"-"])[0]
     found = [stdin if it == b"-" else read(case, "files", os.fsdecode(it)) for it in (spec, trace)]
@@ -71,7 +94,7 @@ def texts_of(case, words):
 
 
 def cases(page):
-    """Each case gives what its folder says. Those that need a file which can't be read are left out: the page opens none."""
+    """Each case gives what its folder says. Those that need a file which can't be read are left out: the page opens none. And it makes none."""
     tried, left_out = set(), 0
     for name in sorted(os.listdir(CASES)):
         case = os.path.join(CASES, name)
@@ -79,7 +102,9 @@ def cases(page):
         words = words[:-1] if words[-1] == b"" else words
         wanted = (int(read(case, "status") or 0), read(case, "stdout"), read(case, "stderr"))
         spec, trace = texts_of(case, words)
-        if wanted[0] == OUTSIDE or None in (spec, trace):
+        if os.path.isdir(os.path.join(case, "made")):
+            wanted = NOTHING_IS_MADE
+        elif wanted[0] == OUTSIDE or None in (spec, trace):
             left_out += 1
             continue
         tried.add(name)

@@ -65,10 +65,10 @@ def keys(page):
     page.tally.judge("a time by the arrow keys", "" if told == "line 2: 8: beat" else repr(told))
     page.shown.evaluate("document.activeElement.blur()")
     reached = set()
-    for _ in range(19):
+    for _ in range(20):
         page.shown.press("Tab")
         reached.add(page.shown.evaluate("document.activeElement.id || document.activeElement.tagName"))
-    wanted = {"recipe", "command", "until", "strict", "stats", "limit", "share", "spec-open", "spec", "trace-open", "trace", "svg", "save", "output"}
+    wanted = {"recipe", "command", "name", "until", "strict", "stats", "limit", "share", "spec-open", "spec", "trace-open", "trace", "svg", "save", "output"}
     page.tally.judge("all by the Tab key", "" if wanted <= reached else f"without {sorted(wanted - reached)}")
     page.shown.evaluate("const box = sources.trace.editor.area; box.focus(); box.setSelectionRange(0, box.value.length); document.getElementById('status').textContent = ''")
     page.shown.type("0: beat\n7: beat\n30:\n")
@@ -90,6 +90,13 @@ def link(page):
     found = page.shown.evaluate("[sources.spec.text, sources.trace.text, document.getElementById('until').value, document.getElementById('output').textContent]")
     right = found == ["in i: Events[Int]\nout i * 2 as twice\n", "1: i = 21\n", "5", "1: twice = 42\n"]
     page.tally.judge("a link", "" if right else f"{found}")
+    page.put(command="slice", name="twice", until="")
+    page.shown.evaluate("document.getElementById('share').click()")
+    page.shown.apply("fragment => { window.earlier = fragment; }", fragment)
+    page.shown.wait("location.hash !== window.earlier")
+    page.open(page.shown.evaluate("location.hash"))
+    page.tally.judge("a link with the name of an output", "" if page.of("output").endswith("out twice %1\n") else repr(page.of("output")))
+    page.put(command="run", name="")
     page.go("#1.no-such-thing")
     right = page.of("status").startswith("status 0:") and "can't be read" in page.of("notice")
     page.tally.judge("a link that is none", "" if right else page.of("status") + page.of("notice"))

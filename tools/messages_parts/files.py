@@ -74,6 +74,24 @@ class Source:
         return None
 
 
+def failure_of_making(name):
+    """Why a file of that name can't be made. Nothing is made or changed for that, and of a pipe or a device it is not known."""
+    try:
+        # What is no folder has nothing below it.
+        os.stat(os.path.join(os.path.dirname(name) or os.curdir, ""))
+        if os.path.isdir(name):
+            return os.strerror(errno.EISDIR)
+        if os.path.isfile(name):
+            os.close(os.open(name, os.O_WRONLY | os.O_NONBLOCK | os.O_NOCTTY))
+        elif not os.path.lexists(name) and not os.access(os.path.dirname(name) or os.curdir, os.W_OK | os.X_OK):
+            return os.strerror(errno.EACCES)
+        if not os.statvfs(os.path.dirname(name) or os.curdir).f_bavail:
+            return os.strerror(errno.ENOSPC)
+    except OSError as error:
+        return error.strerror
+    return "it cannot be written"
+
+
 def start_of(file, number):
     """Where the line of that number begins, or None where there are fewer."""
     at, left = 0, number - 1

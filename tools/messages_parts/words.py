@@ -5,7 +5,11 @@ import re
 
 from .source import nearest, short
 
-COMMANDS = ("run", "check", "flat", "show", "code", "gen", "bench")
+COMMANDS = ("run", "check", "flat", "slice", "show", "code", "compile", "exec", "gen", "bench")
+# Those that run something on a trace, and have options.
+RUNS = ("run", "exec")
+# What stands after the specification, of the commands that take a second word: its name, and what it is.
+SECOND = {"slice": ("NAME", "the name of an output"), "compile": ("FILE", "the name of a file to be made")}
 # Options of the program that take a value, and the least and the greatest of these.
 RANGES = {"--until": (0, 2**63 - 1), "--instants": (1, 10**12), "--bytes": (1, 2**40)}
 FLAGS = ("--strict", "--stats")
@@ -51,7 +55,7 @@ def of_trace(command, rest):
 
 
 def of_names(command, rest):
-    """Words with names of files and, of run, options."""
+    """Words with names of files and, where something is run, options."""
     names, seen, left = [], set(), list(rest)
     while left:
         word = left.pop(0)
@@ -79,17 +83,22 @@ def of_names(command, rest):
         found = of_number(name, value, *RANGES[name])
         if found:
             return found
+    if not names and command == "exec":
+        return "exec needs the name of a file that compile has made, FILE, or - for the standard input"
     if not names:
         return f"{command} needs the name of a specification, SPEC, or - for the standard input"
-    return more_than(command, names, 2 if command == "run" else 1)
+    if command in SECOND and len(names) < 2:
+        name, what = SECOND[command]
+        return f"{command} needs {what} after the specification, {name}"
+    return more_than(command, names, 2 if command in RUNS or command in SECOND else 1)
 
 
 def of_option(command, name, seen):
-    if command != "run":
+    if command not in RUNS:
         return f"{command} takes no options, and {quoted(name)} stands there; after -- all words are names"
     if name not in RANGES and name not in FLAGS:
         near = nearest(name, (*RANGES, *FLAGS))
-        return f"run has no option {quoted(name)}" + (f"; the nearest is {near}" if near else "; after -- all words are names")
+        return f"{command} has no option {quoted(name)}" + (f"; the nearest is {near}" if near else "; after -- all words are names")
     return f"{name} stands twice" if name in seen else None
 
 
