@@ -1,7 +1,7 @@
 // What the program of the page has in place of an operating system: words, two texts to read, and two channels to write.
 //
 // Whatever is opened first is the specification, and what is opened then is the trace; the standard input is the one of them that has no name. Nothing
-// else can be opened. What is written is put at the front of the page's rooms as far as it fits, and counted.
+// else can be opened, and nothing can be made. What is written is put at the front of the page's rooms as far as it fits, and counted.
 #include "heap.c"
 
 typedef long long i64;
@@ -12,7 +12,9 @@ typedef struct {
 } Room;
 
 enum { SPEC, TRACE, TEXTS };
-enum { NOT_FOUND = 2, BAD_FILE = 9, NO_SEEK = 29, FIRST = 3 };
+enum { NOT_FOUND = 2, BAD_FILE = 9, NO_SEEK = 29, READ_ONLY = 30, FIRST = 3 };
+// The flag of an opening that makes the file.
+enum { CREATES = 0100 };
 
 static Room words;
 static Room texts[TEXTS], rooms[2];
@@ -69,6 +71,7 @@ static i64 fails(int number) {
 }
 
 int open(const char *name, int flags, ...) {
+    if (flags & CREATES) return fails(READ_ONLY);
     if (opened == TEXTS) return fails(NOT_FOUND);
     return FIRST + opened++;
 }

@@ -48,4 +48,5 @@ export const STATUSES = {
   5: "a call failed",
   6: "out of memory",
   7: "the limit of instants was passed",
+  10: "no output has this name",
 };

@@ -8,7 +8,7 @@ import { strangersOf } from "./lines.mjs";
 import { fragmentOf, stateOf } from "./link.mjs";
 import { STATUSES, meaningOf } from "./messages.mjs";
 import { Source, decode, encode } from "./source.mjs";
-import { inputsOf } from "./text.mjs";
+import { firstOutputOf, inputsOf } from "./text.mjs";
 import { drawTimeline } from "./timeline.mjs";
 import { short, turns, visible } from "./visible.mjs";
 
@@ -47,6 +47,8 @@ let output = new Uint8Array();
 function question() {
   const command = at("command").value;
   const words = command === "run" ? ["run", ...NAMES] : [command, NAMES[0]];
+  // After -- all words are names.
+  if (command === "slice") words.splice(1, 1, "--", NAMES[0], at("name").value || firstOutputOf(sources.spec.whole));
   if (command === "run" && at("until").value) words.push("--until", at("until").value);
   for (const option of ["strict", "stats"]) if (command === "run" && at(option).checked) words.push(`--${option}`);
   return { words, spec: sources.spec.bytes, trace: sources.trace.bytes };
@@ -58,6 +60,7 @@ function state() {
     spec: sources.spec.text,
     trace: sources.trace.text,
     command: at("command").value,
+    output: at("name").value,
     until: at("until").value,
     strict: checked("strict"),
     stats: checked("stats"),
@@ -68,6 +71,7 @@ function put(given) {
   for (const name of NAMES) sources[name].put(given[name] ?? "");
   const commands = [...at("command").options].map(it => it.value);
   at("command").value = commands.includes(given.command) ? given.command : "run";
+  at("name").value = given.output ?? "";
   at("until").value = /^[0-9]{0,19}$/.test(given.until ?? "") ? (given.until ?? "") : "";
   for (const option of ["strict", "stats"]) at(option).checked = given[option] === "yes";
   note("");
@@ -109,7 +113,8 @@ async function run() {
   hideBar();
   const asked = question();
   say("running");
-  for (const it of document.querySelectorAll(".of-run")) it.classList.toggle("unused", asked.words[0] !== "run");
+  for (const command of ["run", "slice"])
+    for (const it of document.querySelectorAll(`.of-${command}`)) it.classList.toggle("unused", asked.words[0] !== command);
   let got;
   try {
     got = await asking.ask(asked.words, asked.spec, asked.trace, { seconds: Number(at("limit").value), tells: foretold });
@@ -340,7 +345,7 @@ function begin() {
       note("");
       soon();
     });
-  for (const id of ["command", "until", "strict", "stats", "limit"]) at(id).addEventListener("input", () => soon(0));
+  for (const id of ["command", "name", "until", "strict", "stats", "limit"]) at(id).addEventListener("input", () => soon(0));
   at("share").addEventListener("click", share);
   at("save").addEventListener("click", save);
   listenToOpening();

@@ -157,6 +157,15 @@ export function inputsOf(text) {
   return found;
 }
 
+/** The name of the first output of a source: what stands after its `as`, or all that it is. Empty where there is none. */
+export function firstOutputOf(text) {
+  const tokens = text.length <= WHOLE ? tokensOf(text).map(it => it[0]) : [];
+  const first = tokens.indexOf("out");
+  const after = tokens.slice(first + 1).findIndex(it => ["in", "def", "out"].includes(it));
+  const output = first < 0 ? [] : tokens.slice(first + 1, after < 0 ? undefined : first + 1 + after);
+  return output.length === 1 || output.at(-2) === "as" ? output.at(-1) : "";
+}
+
 export function textAt(text, { line, column }) {
   return new Text(text, line, column);
 }
