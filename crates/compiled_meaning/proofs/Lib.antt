@@ -5,3 +5,4 @@ pub mod Meaning
 pub mod Kept
 pub mod Something
 pub mod Inputs
+pub mod Excluding

@@ -20,7 +20,7 @@ pub fn words(alloc: Global, list: &[&str]) -> Result<Words, NoMemory> {
     Ok(words)
 }
 
-fn file(alloc: Global, name: &str, bytes: &[u8]) -> Result<NamedFile, NoMemory> {
+pub(crate) fn file(alloc: Global, name: &str, bytes: &[u8]) -> Result<NamedFile, NoMemory> {
     Ok(NamedFile {
         name: Text::from_str(alloc, name)?,
         bytes: Bytes::from_slice(alloc, bytes)?,
@@ -35,7 +35,7 @@ pub fn files(alloc: Global, spec: &str, name: &str, trace: &[u8]) -> Result<File
     Ok(files)
 }
 
-fn calls(alloc: Global, numbers: &[u64]) -> Result<Calls, NoMemory> {
+pub(crate) fn calls(alloc: Global, numbers: &[u64]) -> Result<Calls, NoMemory> {
     let mut calls = Calls::new(alloc);
     for number in numbers {
         calls.push(*number)?;

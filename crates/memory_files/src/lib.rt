@@ -5,5 +5,6 @@ pub mod end;
 pub mod every_place;
 pub mod files;
 pub mod long;
+pub mod parts;
 pub mod program;
 pub mod rows;

@@ -1,12 +1,12 @@
 // The lines of a slice.
 
-ghost use Rattle.std.specs.Prelude.{◌≡◌, ◌<◌, [], ◌++◌, length, nat_eq, slice_index, IfNone, IfOk, IfSome, OnOk};
-ghost use Rattle.std.specs.Cmp.Lexicographic.{pointwise};
-ghost use Rattle.std.specs.List.{All, flat_map, position};
+ghost use Rattle.std.specs.Prelude.{◌≡◌, ◌<◌, [], ◌++◌, length, slice_index, IfNone, IfOk, IfSome, OnOk};
+ghost use Rattle.std.specs.List.{All, flat_map};
 ghost use Rattle.flat_core.specs.WellFormed.{IsWellFormed};
 ghost use Rattle.program_text.specs.Text.{equation_line, output_line};
 ghost use Rattle.slice_text.specs.Text.{HasOutput, HasSliceText, IsSliceText};
 
+use crate::number::number_of;
 use flat_core::equation::Output;
 use flat_core::flat::Flat;
 use flat_core::lists::EqSet;
@@ -16,15 +16,6 @@ use std::alloc::Global;
 use tsl_value::bytes::Bytes;
 use tsl_value::ids::EqId;
 use tsl_value::memory::NoMemory;
-
-/// The place of the output that is printed under a name.
-fn place_of(outputs: &[Output], name: &str) -> Option<usize>
-    ensures { result ≡ position (λ o. pointwise nat_eq o.name name.now) outputs.now }
-{
-    outputs
-        .iter()
-        .position(|output| output.name.as_str() == name)
-}
 
 /// The equation at a place of a set.
 fn member_at(set: &EqSet, place: usize) -> EqId
@@ -80,9 +71,8 @@ pub fn slice_text(alloc: Global, flat: &Flat, name: &str) -> Result<Option<Bytes
     ensures some { IfOk result (λ found. IfSome found (HasSliceText flat.now name.now)) }
     ensures none { IfOk result (λ found. IfNone found (HasOutput flat.now name.now → ⊥)) }
 {
-    flat.assert_whole();
-    match place_of(flat.outputs(), name) {
-        Some(place) => Ok(Some(text_of(alloc, flat, place as u32)?)),
+    match number_of(flat, name) {
+        Some(number) => Ok(Some(text_of(alloc, flat, number)?)),
         None => Ok(None),
     }
 }

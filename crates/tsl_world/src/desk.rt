@@ -163,6 +163,8 @@ pub struct Desk {
     writes_code: bool,
     out: Bytes,
     err: Bytes,
+    state: Bytes,
+    code: Bytes,
 }
 
 impl Model for Desk {
@@ -170,7 +172,7 @@ impl Model for Desk {
     ghost use Rattle.tsl_world.specs.Journal.{given};
     ghost use Rattle.tsl_world.specs.inner.Desk.{Kept};
     ghost use Rattle.tsl_world.specs.inner.Sizes.{AreSizes};
-    ghost use Rattle.tsl_world.specs.declared.outside.Channel.TheVariants.{Out, Err};
+    ghost use Rattle.tsl_world.specs.declared.outside.Channel.TheVariants.{Out, Err, State, Code};
 
     ghost Value = { Kept };
 
@@ -184,11 +186,15 @@ impl Model for Desk {
       pieces = d.pieces;
       out = d.out;
       err = d.err;
+      state = d.state;
+      code = d.code;
     } };
 
     ghost invariant = { λ d. AreSizes d.pieces
         × (IsTrue d.is_told → d.out ≡ given Out d.journal.items)
-        × (IsTrue d.is_told → d.err ≡ given Err d.journal.items) };
+        × (IsTrue d.is_told → d.err ≡ given Err d.journal.items)
+        × (IsTrue d.is_told → d.state ≡ given State d.journal.items)
+        × (IsTrue d.is_told → d.code ≡ given Code d.journal.items) };
 }
 
 impl Desk {
@@ -225,6 +231,8 @@ impl Desk {
             writes_code: false,
             out: Bytes::new(alloc),
             err: Bytes::new(alloc),
+            state: Bytes::new(alloc),
+            code: Bytes::new(alloc),
         }
     }
 
@@ -251,6 +259,22 @@ impl Desk {
         self.err.as_slice()
     }
 
+    /// What was written to State, as far as it could be kept.
+    pub fn state(&self) -> &[u8]
+        ensures state { result.now ≡ self.now.state }
+        ensures told { IsTrue self.now.told → result.now ≡ given Channel.State self.now.journal }
+    {
+        self.state.as_slice()
+    }
+
+    /// What was written to Code, as far as it could be kept.
+    pub fn code(&self) -> &[u8]
+        ensures code { result.now ≡ self.now.code }
+        ensures told { IsTrue self.now.told → result.now ≡ given Channel.Code self.now.journal }
+    {
+        self.code.as_slice()
+    }
+
     /// Reads on in a slot, as the call of this number.
     #[tactic(auto, using(crate::proofs::SourceLemmas::at_with, crate::proofs::SourceLemmas::at_with_other))]
     pub fn read(&mut self, call: u64, slot: Slot, buf: &mut [u8]) -> usize
@@ -273,7 +297,7 @@ impl Desk {
         count
     }
 
-    /// Takes as many bytes as a piece has, as the call of this number. What goes to `Out` and to `Err` is kept.
+    /// Takes as many bytes as a piece has, as the call of this number, and keeps them.
     pub fn write(&mut self, call: u64, channel: Channel, bytes: &[u8]) -> usize
         requires { 0 < length bytes.now }
         ensures some { 0 < result }
@@ -291,7 +315,8 @@ impl Desk {
         let kept = match channel {
             Channel::Out => self.out.append(piece).is_ok(),
             Channel::Err => self.err.append(piece).is_ok(),
-            _ => true,
+            Channel::State => self.state.append(piece).is_ok(),
+            Channel::Code => self.code.append(piece).is_ok(),
         };
         let did = gave(self.alloc, channel, piece);
         note(&mut self.journal, &mut self.is_told, did);
@@ -344,7 +369,7 @@ impl Desk {
         note(&mut self.journal, &mut self.is_told, did);
     }
 
-    /// Makes a file, whose content is told by the journal alone.
+    /// Makes a file.
     pub fn create(&mut self, channel: Channel, name: &str)
         requires { is_writable (standing_in self.old) channel ≡ false }
         ensures standing { standing_in self.new ≡ with_channel (standing_in self.old) channel }

@@ -112,6 +112,20 @@ impl MemoryWorld {
     {
         self.desk.err()
     }
+
+    /// What was written to the file of `State`, as far as it could be kept; the whole where told.
+    pub fn state(&self) -> &[u8]
+        ensures { IsTrue (told_of self.now) → result.now ≡ given Channel.State (journal_of self.now) }
+    {
+        self.desk.state()
+    }
+
+    /// What was written to the file of `Code`, as far as it could be kept; the whole where told.
+    pub fn code(&self) -> &[u8]
+        ensures { IsTrue (told_of self.now) → result.now ≡ given Channel.Code (journal_of self.now) }
+    {
+        self.desk.code()
+    }
 }
 
 impl World for MemoryWorld {

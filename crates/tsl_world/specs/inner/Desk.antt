@@ -17,6 +17,8 @@ pub record Kept : Type 0 where
   pub pieces : List ℕ
   pub out : List ℕ
   pub err : List ℕ
+  pub state : List ℕ
+  pub code : List ℕ
 
 abbrev pub standing_in : Kept → Standing
 standing_in k = record {

@@ -1,23 +1,18 @@
-use Rattle.std.proofs.Common.{◌∙◌, arith, ap, sym}
-use Rattle.std.specs.List.{position}
-use Rattle.slice_text.proofs.Slices.{first_called, first_within, is_named, none_called}
+use Rattle.std.specs.Prelude.{IfNone, IfSome}
+use Rattle.std.proofs.Common.{Option, ℕ, subst}
+use Rattle.slice_text.specs.Text.{HasOutput, IsOutputCalled}
+use Rattle.slice_text.proofs.Named.{called_within}
 use Rattle.slice_text.proofs.print.slice_text.Goals as goal
 
-pub overflow_cast-place : goal.overflow_cast-place
-overflow_cast-place c =
+pub text_of-requires-clause-there : goal.text_of-requires-clause-there
+text_of-requires-clause-there c =
     let name = c.args.name.now in
-    let first = ap (position (is_named name)) (sym c.outputs.ensures) ∙ (sym c.place_of.ensures ∙ c.in-Some.is) in
-    let within = first_within c.args.flat.now name c.in-Some.place first in
-    let few = c.assert_whole.ensures.is_flat.few_outputs in
-    omega arith
+    called_within c.args.flat.now name c.in-Some.number (subst (λ (x : Option ℕ). IfSome x (IsOutputCalled c.args.flat.now name)) c.in-Some.is c.number_of.ensures.some)
 
 pub returns-in_ok-text_of-in-Some-clause-some : goal.returns-in_ok-text_of-in-Some-clause-some
 returns-in_ok-text_of-in-Some-clause-some c =
     let name = c.args.name.now in
-    let first = ap (position (is_named name)) (sym c.outputs.ensures) ∙ (sym c.place_of.ensures ∙ c.in-Some.is) in
-    (c.in-Some.place, first_called c.args.flat.now name c.in-Some.place first, c.in_ok-text_of-in-Some.ensures)
+    (c.in-Some.number, subst (λ (x : Option ℕ). IfSome x (IsOutputCalled c.args.flat.now name)) c.in-Some.is c.number_of.ensures.some, c.in_ok-text_of-in-Some.ensures)
 
 pub returns-in-None-clause-none : goal.returns-in-None-clause-none
-returns-in-None-clause-none c =
-    let name = c.args.name.now in
-    none_called c.args.flat.now name (ap (position (is_named name)) (sym c.outputs.ensures) ∙ (sym c.place_of.ensures ∙ c.in-None.is))
+returns-in-None-clause-none c = subst (λ (x : Option ℕ). IfNone x (HasOutput c.args.flat.now c.args.name.now → ⊥)) c.in-None.is c.number_of.ensures.none

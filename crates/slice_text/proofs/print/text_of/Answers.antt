@@ -1,6 +1,5 @@
 use Rattle.std.proofs.Common.{◌≡◌, ◌∙◌, Some, get_or, length, refl, slice_get, ap}
 use Rattle.std.proofs.lemmas.Option.{slice_get_read}
-use Rattle.flat_core.specs.declared.equation.Output.{Output}
 use Rattle.slice_text.proofs.Slices.{is_slice_text, members_there}
 use Rattle.slice_text.proofs.print.text_of.Goals as goal
 
