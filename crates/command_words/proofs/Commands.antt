@@ -1,5 +1,5 @@
 -- What the pieces in `clap`'s matches ask for, and what holds of it.
-use Rattle.std.proofs.Common.{◌≡◌, ◌∙◌, ap, sym, subst, refl, arith, ℕ, Bool, true, false, ◌&&◌, List, length, drop, Option, Some, None, ◌≤◌, if◌then◌else◌, slice_get, option_and_then, option_map, unwrap_or}
+use Rattle.std.proofs.Common.{◌≡◌, ◌∙◌, ap, sym, subst, refl, arith, ℕ, Bool, true, false, ◌&&◌, List, drop, Option, Some, None, ◌<◌, ◌≤◌, ◌^◌, if◌then◌else◌, slice_get, option_and_then, option_map, unwrap_or}
 use Rattle.std.specs.Prelude.{nat_le, IfSome}
 use Rattle.std.specs.Str.Parse.{digits_value}
 use Rattle.std.specs.List.{list_any}
@@ -16,25 +16,45 @@ use Rattle.command_words.specs.declared.command.Command.TheVariants as command
 use Rattle.command_words.specs.declared.command.Form.{Form}
 use Rattle.command_words.specs.declared.command.Form.TheVariants as form
 use Rattle.command_words.specs.declared.command.Run.{Run}
+use Rattle.command_words.specs.declared.command.Why.{Why}
 use Rattle.command_words.specs.declared.command.Workload.{Workload}
+use Rattle.command_words.specs.declared.words.Limits.{Limits}
 use Rattle.command_words.specs.declared.words.Source.{Source}
 use Rattle.command_words.specs.declared.words.Source.TheVariants as source
 use Rattle.command_words.specs.declared.words.Verb.{Verb}
 use Rattle.command_words.specs.declared.words.Verb.TheVariants as verb
-use Rattle.command_words.specs.Words.{IsLimited, IsLimitedRun, IsLimitedCount, until_name, instants_name, bytes_name, strict_flag, stats_flag, Piece, plains, values, uses, fits, read, one_room, run_room, pair_room, number, number_or, run_by, run_of, spec_of, kind_of as trace_kind, counted_by, counted_of, first_verb, asked_by, command_of, is_empty}
+use Rattle.command_words.specs.Words.{IsLimited, IsLimitedRun, IsLimitedWhy, IsLimitedCount, until_name, instants_name, bytes_name, save_name, resume_name, strict_flag, stats_flag, Piece, plains, value_of, has_use, agree, are_filled, fits, read, one_room, run_room, pair_room, why_room, number, number_or, files_of, limits_by, limits_of, run_by, run_of, subject_of, why_of, spec_of, kind_of as trace_kind, counted_by, counted_of, first_verb, asked_by, command_of, is_empty}
 use Rattle.command_words.specs.declared.limits.TheConstants.{MOST_TIME, MOST_LINES}
 
--- what is asked for by pieces that have room
-pub run_held : (from : Source) (ps : List Piece) (found : Found) → Holds ps found → fits run_room ps ≡ true
-    → option_and_then (run_of from) (if fits run_room ps then Some ps else None) ≡ run_found from found (nat_le 1 (length (uses strict_flag ps))) (nat_le 1 (length (uses stats_flag ps)))
-run_held from ps found h room = ap (λ b. option_and_then (run_of from) (if b then Some ps else None)) room ∙ same
+-- the run that pieces ask for that may ask for one
+abbrev run_told : Source → List Piece → Option Run
+run_told from ps = run_by from (files_of ps) (limits_of ps) (has_use strict_flag ps) (has_use stats_flag ps)
+
+run_asked : (from : Source) (ps : List Piece) → option_and_then (run_of from) (if fits run_room ps then Some ps else None) ≡ (if fits run_room ps && (agree ps && are_filled ps) then run_told from ps else None)
+run_asked from ps = go (fits run_room ps)
   where
-    same : run_of from ps ≡ run_found from found (nat_le 1 (length (uses strict_flag ps))) (nat_le 1 (length (uses stats_flag ps)))
-    same = rw (h.first, h.second, h.named until_name, h.named instants_name, h.named bytes_name) refl
+    go : (q : Bool) → option_and_then (run_of from) (if q then Some ps else None) ≡ (if q && (agree ps && are_filled ps) then run_told from ps else None)
+    go true = refl
+    go false = refl
+
+module _ (from : Source) (ps : List Piece) (may : Bool) (is : may ≡ (fits run_room ps && (agree ps && are_filled ps))) where
+  asked_where : (q : Bool) → may ≡ q → option_and_then (run_of from) (if fits run_room ps then Some ps else None) ≡ (if q then run_told from ps else None)
+  asked_where q so = run_asked from ps ∙ ap (λ b. if b then run_told from ps else None) (sym is ∙ so)
+
+  pub run_refused : may ≡ false → None ≡ option_and_then (run_of from) (if fits run_room ps then Some ps else None)
+  run_refused not = sym (asked_where false not)
+
+  pub run_held : (found : Found) → Holds ps found → may ≡ true
+      → run_found from found (has_use strict_flag ps) (has_use stats_flag ps) ≡ option_and_then (run_of from) (if fits run_room ps then Some ps else None)
+  run_held found h so = sym (asked_where true so ∙ same)
+    where
+      same : run_told from ps ≡ run_found from found (has_use strict_flag ps) (has_use stats_flag ps)
+      same = rw (h.first, h.second, h.named until_name, h.named instants_name, h.named bytes_name, h.named save_name, h.named resume_name) refl
 
 pub refused_by : (words : List Text) (v : Verb) → IsRefused words → asked_by v words ≡ None
 refused_by words verb.Run h = rw h.run refl
 refused_by words verb.Exec h = rw h.run refl
+refused_by words verb.Why h = rw h.why refl
 refused_by words verb.Check h = rw h.spec refl
 refused_by words verb.Flat h = rw h.spec refl
 refused_by words verb.Show h = rw h.spec refl
@@ -83,16 +103,22 @@ or_within : (other least most : ℕ) (word : Option Text) (n : ℕ) → least �
 or_within other least most None n low high e = let is : other ≡ n = ap (λ r. unwrap_or r other) e in (omega arith, omega arith)
 or_within other least most (Some word) n low high e = number_within least most word n e
 
-limited_by : (from : Source) (file trace until instants bytes : Option Text) (strict stats : Bool) (run : Run) → run_by from file trace until instants bytes strict stats ≡ Some run → IsLimitedRun run
-limited_by from file trace until instants bytes strict stats run e =
-    let named = then_some _ file run e in
-    let timed = then_some _ (number_or 0 0 MOST_TIME until) run named.2 in
-    let counted = then_some _ (number_or MOST_INSTANTS 1 MOST_INSTANTS instants) run timed.2 in
-    let measured = map_some _ (number_or MOST_TRACE_BYTES 1 MOST_TRACE_BYTES bytes) run counted.2 in
+record AreLimited (limits : Limits) : Type 0 where
+  until : limits.until < 2 ^ 63
+  some_instants : 1 ≤ limits.instants
+  instants : limits.instants ≤ MOST_INSTANTS
+  some_bytes : 1 ≤ limits.bytes
+  bytes : limits.bytes ≤ MOST_TRACE_BYTES
+
+limits_within : (until instants bytes : Option Text) (limits : Limits) → limits_by until instants bytes ≡ Some limits → AreLimited limits
+limits_within until instants bytes limits e =
+    let timed = then_some _ (number_or 0 0 MOST_TIME until) limits e in
+    let counted = then_some _ (number_or MOST_INSTANTS 1 MOST_INSTANTS instants) limits timed.2 in
+    let measured = map_some _ (number_or MOST_TRACE_BYTES 1 MOST_TRACE_BYTES bytes) limits counted.2 in
     let time = or_within 0 0 MOST_TIME until timed.0 (omega arith) (omega arith) timed.1 in
     let count = or_within MOST_INSTANTS 1 MOST_INSTANTS instants counted.0 (omega arith) (omega arith) counted.1 in
     let size = or_within MOST_TRACE_BYTES 1 MOST_TRACE_BYTES bytes measured.0 (omega arith) (omega arith) measured.1 in
-    subst IsLimitedRun measured.2 (record { until = omega arith; some_instants = count.0; instants = count.1; some_bytes = size.0; bytes = size.1 })
+    subst AreLimited measured.2 (record { until = omega arith; some_instants = count.0; instants = count.1; some_bytes = size.0; bytes = size.1 })
 
 counted_limited : (name count : Option Text) (c : Workload × ℕ) → counted_by name count ≡ Some c → IsLimitedCount c.1
 counted_limited name count c e =
@@ -104,8 +130,17 @@ counted_limited name count c e =
 
 run_limited : (from : Source) (ps : List Piece) (r : Run) → run_of from ps ≡ Some r → IsLimitedRun r
 run_limited from ps r e =
-    limited_by from (slice_get (plains ps) 0) (slice_get (plains ps) 1) (slice_get (values until_name ps) 0) (slice_get (values instants_name ps) 0)
-    (slice_get (values bytes_name ps) 0) (nat_le 1 (length (uses strict_flag ps))) (nat_le 1 (length (uses stats_flag ps))) r e
+    let named = then_some _ (files_of ps) r (kept (agree ps && are_filled ps) _ r e) in
+    let told = map_some _ (limits_of ps) r named.2 in
+    let within = limits_within (value_of until_name ps) (value_of instants_name ps) (value_of bytes_name ps) told.0 told.1 in
+    subst IsLimitedRun told.2 (record { until = within.until; some_instants = within.some_instants; instants = within.instants; some_bytes = within.some_bytes; bytes = within.bytes })
+
+why_limited : (ps : List Piece) (w : Why) → why_of ps ≡ Some w → IsLimitedWhy w
+why_limited ps w e =
+    let named = then_some _ (subject_of ps) w e in
+    let told = map_some _ (limits_of ps) w named.2 in
+    let within = limits_within (value_of until_name ps) (value_of instants_name ps) (value_of bytes_name ps) told.0 told.1 in
+    subst IsLimitedWhy told.2 (record { some_instants = within.some_instants; instants = within.instants; some_bytes = within.some_bytes; bytes = within.bytes })
 
 asked_limited : (v : Verb) (words : List Text) (c : Command) → asked_by v words ≡ Some c → IsLimited c
 asked_limited verb.Run words c e =
@@ -116,6 +151,10 @@ asked_limited verb.Exec words c e =
     let r = map_some command.Run _ c e in
     let ps = then_some (run_of source.Code) (read run_room words) r.0 r.1 in
     subst IsLimited r.2 (run_limited source.Code ps.0 r.0 ps.2)
+asked_limited verb.Why words c e =
+    let w = map_some command.Why _ c e in
+    let ps = then_some why_of (read why_room words) w.0 w.1 in
+    subst IsLimited w.2 (why_limited ps.0 w.0 ps.2)
 asked_limited verb.Check words c e = let r = map_some (λ (spec : Text). command.Write spec form.Check) _ c e in subst IsLimited r.2 tt
 asked_limited verb.Flat words c e = let r = map_some (λ (spec : Text). command.Write spec form.Flat) _ c e in subst IsLimited r.2 tt
 asked_limited verb.Show words c e = let r = map_some (λ (spec : Text). command.Write spec form.Show) _ c e in subst IsLimited r.2 tt

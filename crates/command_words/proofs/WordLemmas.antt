@@ -1,8 +1,9 @@
 -- What `clap` makes of the words of a run: where it refuses them, and else the pieces in its matches.
 use Rattle.std.proofs.Common.{◌≡◌, ◌∙◌, ap, sym, subst, refl, arith, ℕ, Bool, true, false, not, ◌||◌, ◌==◌, ◌+◌, suc, List, [], ◌∷◌, ◌++◌, length, map, drop, take, Option, Some, None, codes, fold, ◌≤◌, if◌then◌else◌, option_and_then, slice_get, unwrap_or}
 use Rattle.std.specs.Str.{bytes_eq, IsUtf8}
-use Rattle.std.specs.List.{All, before_first, prefix_len}
+use Rattle.std.specs.List.{All, before_first, list_all, prefix_len}
 use Rattle.std.proofs.lemmas.Bool.{eqb-true, eq-eqb, le-leb, leb-true, and_parts}
+use Rattle.std.proofs.Math.Nat.{le_trans}
 use Rattle.std.proofs.lemmas.List.{append-nil, append_assoc}
 use Rattle.clap.specs.Walk.{nothing_held, rows_of, Row, Rule, Text, Waiting, Walk, idle, option as taking, walked, value, arg_by_index, settled_rows, to_positional, has_row, with_values, more_values, with_default, default_rows, reading_by, is_empty, first_of, one_of}
 use Rattle.clap.specs.Lexer.{long_of, short_of}
@@ -10,6 +11,7 @@ use Rattle.clap.specs.Simple.{App, HasMatchesOf, is_simple, matches_of, built, f
 use Rattle.clap.specs.Faults.{check_fault, fault_of, level_fault, defaults_fault, default_fault, given_default_fault, turn_fault, walk_fault, settle_fault, step_fault}
 use Rattle.std.specs.Prelude.{nat_le}
 use Rattle.clap.proofs.FaultLemmas.{leaf_fault}
+use Rattle.clap.proofs.SimpleLemmas.{is_nil}
 use Rattle.clap.proofs.WalkLemmas.{first_value-rows, one_text-rows}
 use Rattle.clap.specs.declared.parser.matches.ArgMatches.{ArgMatches}
 use Rattle.clap.specs.Kinds.{Kinds, IsAmong, or_else, check_kinds}
@@ -18,9 +20,9 @@ use Rattle.clap.specs.declared.error.kind.ErrorKind.{ErrorKind}
 use Rattle.clap.specs.declared.builder.value_parser.Reading.TheVariants.{AsWritten}
 use Rattle.clap.specs.declared.parser.matches.ValueSource.TheVariants.{DefaultValue}
 use Rattle.command_words.specs.inner.Reader.{IsRefused, Matches, flag_id, flag_rule, id_of, option_rule, run_app, first_rule, word_id}
-use Rattle.command_words.specs.Words.{Name, until_name, instants_name, bytes_name, Flag, strict_flag, stats_flag, Piece, plain, option, flag, Class, whole, waits, ends, refused, is_dashed, is_equals, value_in, class_of, named_class, before, pieces, plains, values, uses, fits, read, one_room, run_room, pair_room}
+use Rattle.command_words.specs.Words.{Name, until_name, instants_name, bytes_name, save_name, resume_name, all_names, times_of, Flag, strict_flag, stats_flag, all_flags, uses_of, Piece, plain, option, flag, Class, whole, waits, ends, refused, is_dashed, is_equals, value_in, class_of, named_class, before, pieces, plains, values, uses, fits, read, one_room, run_room, pair_room, why_room}
 use Rattle.command_words.specs.declared.room.Room.{Room}
-use Rattle.command_words.proofs.WordRows.{row, flag_row, rows_from, any_row, has_chosen, flag_other, chosen_name, chosen_words, defaulted, flag_no_word, fresh_row, rows_more, has_name, has_flag, Fits, plains_then, fits_plain, fits_flag, fits_option, unfit_plain, unfit_flag, unfit_option, default_row, final, first_final, first_word, second_word, third_word, fourth_word, flag_final, first_given, words_at}
+use Rattle.command_words.proofs.WordRows.{each_name, each_flag, row, flag_row, rows_from, any_row, has_chosen, flag_other, chosen_name, chosen_words, defaulted, flag_no_word, fresh_row, rows_more, has_name, has_flag, Fits, plains_then, fits_plain, fits_flag, fits_option, unfit_plain, unfit_flag, unfit_option, default_row, final, first_final, first_word, second_word, third_word, fourth_word, flag_final, first_given, words_at}
 use Rattle.command_words.proofs.WordTurns.{is_exact, Place, first_place, second_place, third_place, fourth_place, word_slot, name_slot, S, R, HasFault, left_fault, Look, look, Named, named, rest_name, name_after, value_after, at, fault_from, end_rows, pass_turn, stop_turn, pass_rows, held, quiet_settle, loud_settle, slot_rows, empty_settle, positional_step, word_placed, plain_turn, plain_walked, trailing_turn, trailing_walked, end_turn, end_walked, value_turn, value_walked, short_turn, first_char, long_turn, long_turn_is, long_walk, long_walk_is, loud_long, unknown_long, option_turn, option_walked, joined_turn, joined_again, joined_walked, flag_turn, flag_again, flag_valued, flag_walked, Texts, loud_trailing, loud_idle, undashed, end_mark, long, short, to_option, to_flag, to_none}
 
 -- ---- the pieces so far
@@ -237,7 +239,7 @@ short_kind c cs h = end_not ∙ go (is_equals c) refl
     cut = prefix_len (λ x. not (is_equals x)) cs
 
     nameless : (t : Text) (v : Option Text) → ((rest : Text) → bytes_eq (45 ∷ rest) t ≡ false) → named_class (45 ∷ t) v ≡ refused
-    nameless t v other = rw (other (codes "strict"), other (codes "stats"), other (codes "until"), other (codes "instants"), other (codes "bytes")) refl
+    nameless t v other = rw (other (codes "strict"), other (codes "stats"), other (codes "until"), other (codes "instants"), other (codes "bytes"), other (codes "save"), other (codes "resume")) refl
 
     go : (q : Bool) → is_equals c ≡ q → named_class (before_first is_equals (45 ∷ c ∷ cs)) (value_in (45 ∷ c ∷ cs)) ≡ refused
     go true e =
@@ -305,18 +307,17 @@ judge_word word words u us ih waiting_ih done rows pending f s = go word (look w
     long_word : (word id : Text) (v : Option Text) → Named id → turn_fault S [] w word ≡ long_turn idle n word id v (held rows pending) → walked R [] w word ≡ long_walk n word id v w
         → Judged w (word ∷ words) done (by_class (named_class (45 ∷ 45 ∷ id) v) words)
     long_word word _ None (to_option until_name) turn walk = option_word word until_name turn walk
-    long_word word _ None (to_option instants_name) turn walk = option_word word instants_name turn walk
-    long_word word _ None (to_option bytes_name) turn walk = option_word word bytes_name turn walk
+    long_word word _ None (to_option name) turn walk = option_word word name turn walk
     long_word word _ (Some v) (to_option until_name) turn walk = joined_word word v until_name turn walk (values until_name done) refl
-    long_word word _ (Some v) (to_option instants_name) turn walk = joined_word word v instants_name turn walk (values instants_name done) refl
-    long_word word _ (Some v) (to_option bytes_name) turn walk = joined_word word v bytes_name turn walk (values bytes_name done) refl
+    long_word word _ (Some v) (to_option name) turn walk = joined_word word v name turn walk (values name done) refl
     long_word word _ None (to_flag strict_flag) turn walk = flag_word word strict_flag turn walk (uses strict_flag done) refl
     long_word word _ None (to_flag stats_flag) turn walk = flag_word word stats_flag turn walk (uses stats_flag done) refl
     long_word word _ (Some v) (to_flag strict_flag) turn walk = not_told w (word ∷ words) done (stop_turn w word words (subst HasFault (sym turn) (flag_valued strict_flag n word v (held rows pending))))
     long_word word _ (Some v) (to_flag stats_flag) turn walk = not_told w (word ∷ words) done (stop_turn w word words (subst HasFault (sym turn) (flag_valued stats_flag n word v (held rows pending))))
-    long_word word id v (to_none _ a b c d x) turn walk =
-        let is : named_class (45 ∷ 45 ∷ id) v ≡ refused = rw (a, b, c, d, x) refl in
-        subst (λ k. Judged w (word ∷ words) done (by_class k words)) (sym is) (not_told w (word ∷ words) done (stop_turn w word words (subst HasFault (sym turn) (unknown_long idle n word id v (held rows pending) a b c d x))))
+    long_word word id v (to_none _ names flags) turn walk =
+        let is : named_class (45 ∷ 45 ∷ id) v ≡ refused =
+        rw (names until_name, names instants_name, names bytes_name, names save_name, names resume_name, flags strict_flag, flags stats_flag) refl in
+        subst (λ k. Judged w (word ∷ words) done (by_class k words)) (sym is) (not_told w (word ∷ words) done (stop_turn w word words (subst HasFault (sym turn) (unknown_long idle n word id v (held rows pending) names flags))))
 
     told : (word : Text) (kind : Class) → class_of word ≡ kind → Judged w (word ∷ words) done (by_class kind words) → Judged w (word ∷ words) done (pieces None (word ∷ words))
     told word kind e judged = subst (Judged w (word ∷ words) done) (sym (told_by_class word words ∙ ap (λ k. by_class k words) e)) judged
@@ -351,8 +352,15 @@ no_default a rows e = go (has_row a.id rows)
     go true = refl
     go false = ap (λ d. default_rows a.id (reading_by a) d rows) e
 
-past_default : (a : Rule) (rest : List Rule) (rows : List Row) → a.defaults ≡ [] → fold with_default rows (a ∷ rest) ≡ fold with_default rows rest
-past_default a rest rows e = ap (λ l. fold with_default l rest) (no_default a rows e)
+-- arguments without defaults
+abbrev have_none : List Rule → Bool
+have_none = list_all (λ a. is_empty a.defaults)
+
+past_defaults : (rules rest : List Rule) (rows : List Row) → have_none rules ≡ true → fold with_default rows (rules ++ rest) ≡ fold with_default rows rest
+past_defaults [] rest rows e = refl
+past_defaults (a ∷ rules) rest rows e =
+    let none = and_parts _ _ e in
+    ap (λ l. fold with_default l (rules ++ rest)) (no_default a rows (is_nil a.defaults none.0)) ∙ past_defaults rules rest rows none.1
 
 quiet_default : (a : Rule) (rest : List Rule) (rows : List Row) → a.defaults ≡ [] → defaults_fault rows (a ∷ rest) ≡ defaults_fault rows rest
 unfolding defaults_fault
@@ -364,6 +372,12 @@ quiet_default a rest rows e = ap (λ k. or_else k (defaults_fault (with_default 
 
     none : default_fault rows a ≡ []
     none = let empty : is_empty a.defaults ≡ true = ap is_empty e in ap (λ b. if has_row a.id rows || b then [] else given_default_fault a a.defaults) empty ∙ go (has_row a.id rows)
+
+quiet_defaults : (rules rest : List Rule) (rows : List Row) → have_none rules ≡ true → defaults_fault rows (rules ++ rest) ≡ defaults_fault rows rest
+quiet_defaults [] rest rows e = refl
+quiet_defaults (a ∷ rules) rest rows e =
+    let none = and_parts _ _ e in
+    quiet_default a (rules ++ rest) rows (is_nil a.defaults none.0) ∙ quiet_defaults rules rest rows none.1
 
 abbrev first_arg : Rule
 first_arg = with_index 1 (filled first_rule)
@@ -378,7 +392,11 @@ option_arg name = with_index 5 (filled (option_rule name))
 abbrev flag_arg : Flag → Rule
 flag_arg f = with_index 5 (filled (flag_rule (flag_id f)))
 
-rules_are : R ≡ first_arg ∷ word_arg 1 ∷ word_arg 2 ∷ word_arg 3 ∷ option_arg (codes "until") ∷ option_arg (codes "instants") ∷ option_arg (codes "bytes") ∷ flag_arg strict_flag ∷ flag_arg stats_flag ∷ []
+-- the arguments without defaults, before the flags
+abbrev valued_args : List Rule
+valued_args = first_arg ∷ word_arg 1 ∷ word_arg 2 ∷ word_arg 3 ∷ map (λ name. option_arg (id_of name)) all_names
+
+rules_are : R ≡ valued_args ++ flag_arg strict_flag ∷ flag_arg stats_flag ∷ []
 rules_are = refl
 
 flag_default : (f : Flag) (rows : List Row) → with_default rows (flag_arg f) ≡ defaulted f rows
@@ -395,15 +413,12 @@ flag_default stats_flag rows = go (has_row (codes "stats") rows) refl
 
 finished_is : (rows : List Row) → fold with_default rows R ≡ final rows
 finished_is rows =
-    past_default first_arg (drop 1 R) rows refl ∙ (past_default (word_arg 1) (drop 2 R) rows refl ∙ (past_default (word_arg 2) (drop 3 R) rows refl ∙ (past_default (word_arg 3) (drop 4 R) rows refl
-    ∙ (past_default (option_arg (codes "until")) (drop 5 R) rows refl ∙ (past_default (option_arg (codes "instants")) (drop 6 R) rows refl ∙ (past_default (option_arg (codes "bytes")) (drop 7 R) rows refl
-    ∙ (ap (λ l. with_default l (flag_arg stats_flag)) (flag_default strict_flag rows) ∙ flag_default stats_flag (defaulted strict_flag rows))))))))
+    past_defaults valued_args (flag_arg strict_flag ∷ flag_arg stats_flag ∷ []) rows refl
+    ∙ (ap (λ l. with_default l (flag_arg stats_flag)) (flag_default strict_flag rows) ∙ flag_default stats_flag (defaulted strict_flag rows))
 
 defaults_quiet : (rows : List Row) → defaults_fault rows R ≡ []
 unfolding defaults_fault
-defaults_quiet rows =
-    quiet_default first_arg (drop 1 R) rows refl ∙ (quiet_default (word_arg 1) (drop 2 R) rows refl ∙ (quiet_default (word_arg 2) (drop 3 R) rows refl ∙ (quiet_default (word_arg 3) (drop 4 R) rows refl
-    ∙ (quiet_default (option_arg (codes "until")) (drop 5 R) rows refl ∙ (quiet_default (option_arg (codes "instants")) (drop 6 R) rows refl ∙ (quiet_default (option_arg (codes "bytes")) (drop 7 R) rows refl ∙ flags))))))
+defaults_quiet rows = quiet_defaults valued_args (flag_arg strict_flag ∷ flag_arg stats_flag ∷ []) rows refl ∙ flags
   where
     go : (q : Bool) (k : Kinds) → or_else (if q || false then [] else []) k ≡ k
     go true k = refl
@@ -414,35 +429,40 @@ defaults_quiet rows =
 
 -- ---- the two answers
 
+every_name : (p : Name → Bool) → list_all p all_names ≡ true → (name : Name) → p name ≡ true
+every_name p h =
+    let until = and_parts _ _ h in
+    let instants = and_parts _ _ until.1 in
+    let bytes = and_parts _ _ instants.1 in
+    let save = and_parts _ _ bytes.1 in
+    let resume = and_parts _ _ save.1 in
+    each_name (λ name. p name ≡ true) until.0 instants.0 bytes.0 save.0 resume.0
+
+every_flag : (p : Flag → Bool) → list_all p all_flags ≡ true → (f : Flag) → p f ≡ true
+every_flag p h =
+    let strict = and_parts _ _ h in
+    let stats = and_parts _ _ strict.1 in
+    each_flag (λ f. p f ≡ true) strict.0 stats.0
+
+within : {limit : ℕ} (n most : ℕ) → nat_le n most ≡ true → most ≤ limit → n ≤ limit
+within n most few low = le_trans (leb-true n most few) low
+
 -- pieces that have room where each option and each flag stands once at most
 fits_room : (room : Room) (ps : List Piece) → room.most ≤ 4 → room.limits ≤ 1 → room.others ≤ 1 → fits room ps ≡ true → Fits ps
 fits_room room ps most limits others h =
     let a = and_parts _ _ h in
     let b = and_parts _ _ a.1 in
     let c = and_parts _ _ b.1 in
-    let until = and_parts _ _ c.0 in
-    let instants = and_parts _ _ until.1 in
-    let bytes = and_parts _ _ instants.1 in
-    let strict = and_parts _ _ c.1 in
-    let stats = and_parts _ _ strict.1 in
     record {
-      words = let few = leb-true (length (plains ps)) room.most b.0 in omega arith;
-      options = each (leb-true _ room.others until.0) (leb-true _ room.limits instants.0) (leb-true _ room.limits bytes.0);
-      once = single (leb-true _ room.limits strict.0) (leb-true _ room.others stats.0);
+      words = within _ room.most b.0 most;
+      options = λ name. within _ (times_of room name) (every_name (λ name. nat_le (length (values name ps)) (times_of room name)) c.0 name) (each_name (λ name. times_of room name ≤ 1) others limits limits others others name);
+      once = λ f. within _ (uses_of room f) (every_flag (λ f. nat_le (length (uses f ps)) (uses_of room f)) c.1 f) (each_flag (λ f. uses_of room f ≤ 1) limits others f);
     }
-  where
-    each : length (values until_name ps) ≤ room.others → length (values instants_name ps) ≤ room.limits → length (values bytes_name ps) ≤ room.limits → (name : Name) → length (values name ps) ≤ 1
-    each a b c until_name = omega arith
-    each a b c instants_name = omega arith
-    each a b c bytes_name = omega arith
-
-    single : length (uses strict_flag ps) ≤ room.limits → length (uses stats_flag ps) ≤ room.others → (f : Flag) → length (uses f ps) ≤ 1
-    single a b strict_flag = omega arith
-    single a b stats_flag = omega arith
 
 -- none has room
 pub record FitsNone (ps : List Piece) : Type 0 where
   pub run : fits run_room ps ≡ false
+  pub why : fits why_room ps ≡ false
   pub spec : fits one_room ps ≡ false
   pub count : fits pair_room ps ≡ false
 
@@ -456,12 +476,13 @@ unfit_room room ps most limits others unfit = go (fits room ps) refl
 unfit_all : (ps : List Piece) → (Fits ps → ⊥) → FitsNone ps
 unfit_all ps unfit = record {
   run = unfit_room run_room ps (omega arith) (omega arith) (omega arith) unfit;
+  why = unfit_room why_room ps (omega arith) (omega arith) (omega arith) unfit;
   spec = unfit_room one_room ps (omega arith) (omega arith) (omega arith) unfit;
   count = unfit_room pair_room ps (omega arith) (omega arith) (omega arith) unfit;
 }
 
 wordless : (ps : List Piece) → plains ps ≡ [] → FitsNone ps
-wordless ps e = record { run = rw e refl; spec = rw e refl; count = rw e refl }
+wordless ps e = record { run = rw e refl; why = rw e refl; spec = rw e refl; count = rw e refl }
 
 read_none : (room : Room) (words : List Text) (told : Option (List Piece)) → pieces None words ≡ told → ((ps : List Piece) → told ≡ Some ps → fits room ps ≡ false) → read room words ≡ None
 read_none room words None e unfit = ap (option_and_then (λ ps. if fits room ps then Some ps else None)) e
@@ -470,6 +491,7 @@ read_none room words (Some ps) e unfit = ap (option_and_then (λ ps. if fits roo
 refused_when : (words : List Text) (told : Option (List Piece)) → pieces None words ≡ told → ((ps : List Piece) → told ≡ Some ps → FitsNone ps) → IsRefused words
 refused_when words told e none = record {
   run = read_none run_room words told e (λ ps is. (none ps is).run);
+  why = read_none why_room words told e (λ ps is. (none ps is).why);
   spec = read_none one_room words told e (λ ps is. (none ps is).spec);
   count = read_none pair_room words told e (λ ps is. (none ps is).count);
 }

@@ -13,7 +13,20 @@ use Rattle.std.specs.Prelude.{nat_le}
 use Rattle.clap.specs.declared.builder.value_parser.Reading.TheVariants.{AsWritten}
 use Rattle.clap.specs.declared.parser.matches.ValueSource.TheVariants.{CommandLine, DefaultValue}
 use Rattle.command_words.specs.inner.Reader.{id_of, flag_id, word_id}
-use Rattle.command_words.specs.Words.{Name, until_name, instants_name, bytes_name, Flag, strict_flag, stats_flag, Piece, plain, option, flag, same_name, same_flag, plains, values, uses}
+use Rattle.command_words.specs.Words.{Name, until_name, instants_name, bytes_name, save_name, resume_name, Flag, strict_flag, stats_flag, Piece, plain, option, flag, same_name, same_flag, plains, values, uses}
+
+-- ---- what holds of each option and flag
+
+pub each_name : (P : Name → Type 0) → P until_name → P instants_name → P bytes_name → P save_name → P resume_name → (name : Name) → P name
+each_name P u i b s r until_name = u
+each_name P u i b s r instants_name = i
+each_name P u i b s r bytes_name = b
+each_name P u i b s r save_name = s
+each_name P u i b s r resume_name = r
+
+pub each_flag : (P : Flag → Type 0) → P strict_flag → P stats_flag → (f : Flag) → P f
+each_flag P s t strict_flag = s
+each_flag P s t stats_flag = t
 
 -- ---- the rows of pieces
 
@@ -64,53 +77,37 @@ chosen_append id (r ∷ rs) ys = go (bytes_eq r.id id) (chosen_append id rs ys)
 
 plain_other : (n : ℕ) (name : Name) → bytes_eq (word_id n) (id_of name) ≡ false
 plain_other zero until_name = refl
-plain_other zero instants_name = refl
-plain_other zero bytes_name = refl
 plain_other (suc zero) until_name = refl
-plain_other (suc zero) instants_name = refl
-plain_other (suc zero) bytes_name = refl
 plain_other (suc (suc zero)) until_name = refl
-plain_other (suc (suc zero)) instants_name = refl
-plain_other (suc (suc zero)) bytes_name = refl
 plain_other (suc (suc (suc n))) until_name = refl
-plain_other (suc (suc (suc n))) instants_name = refl
-plain_other (suc (suc (suc n))) bytes_name = refl
+plain_other n name = refl
 
 plain_no_flag : (n : ℕ) (f : Flag) → bytes_eq (word_id n) (flag_id f) ≡ false
 plain_no_flag zero strict_flag = refl
-plain_no_flag zero stats_flag = refl
 plain_no_flag (suc zero) strict_flag = refl
-plain_no_flag (suc zero) stats_flag = refl
 plain_no_flag (suc (suc zero)) strict_flag = refl
-plain_no_flag (suc (suc zero)) stats_flag = refl
 plain_no_flag (suc (suc (suc n))) strict_flag = refl
-plain_no_flag (suc (suc (suc n))) stats_flag = refl
+plain_no_flag n f = refl
 
 pub flag_other : (f : Flag) (name : Name) → bytes_eq (flag_id f) (id_of name) ≡ false
 flag_other strict_flag until_name = refl
-flag_other strict_flag instants_name = refl
-flag_other strict_flag bytes_name = refl
 flag_other stats_flag until_name = refl
-flag_other stats_flag instants_name = refl
-flag_other stats_flag bytes_name = refl
+flag_other f name = refl
 
 name_no_flag : (name : Name) (f : Flag) → bytes_eq (id_of name) (flag_id f) ≡ false
 name_no_flag until_name strict_flag = refl
-name_no_flag until_name stats_flag = refl
 name_no_flag instants_name strict_flag = refl
-name_no_flag instants_name stats_flag = refl
 name_no_flag bytes_name strict_flag = refl
-name_no_flag bytes_name stats_flag = refl
+name_no_flag save_name strict_flag = refl
+name_no_flag resume_name strict_flag = refl
+name_no_flag name f = refl
 
 pub flag_no_word : (n : ℕ) (f : Flag) → bytes_eq (flag_id f) (word_id n) ≡ false
 flag_no_word zero strict_flag = refl
-flag_no_word zero stats_flag = refl
 flag_no_word (suc zero) strict_flag = refl
-flag_no_word (suc zero) stats_flag = refl
 flag_no_word (suc (suc zero)) strict_flag = refl
-flag_no_word (suc (suc zero)) stats_flag = refl
 flag_no_word (suc (suc (suc n))) strict_flag = refl
-flag_no_word (suc (suc (suc n))) stats_flag = refl
+flag_no_word n f = refl
 
 flag_or_other : (other f : Flag) → bytes_eq (flag_id other) (flag_id f) ≡ same_flag f other
 flag_or_other strict_flag strict_flag = refl
@@ -126,39 +123,26 @@ same_flag_is stats_flag strict_flag h = let bad : false ≡ true = h in cc
 
 name_no_word : (n : ℕ) (name : Name) → bytes_eq (id_of name) (word_id n) ≡ false
 name_no_word zero until_name = refl
-name_no_word zero instants_name = refl
-name_no_word zero bytes_name = refl
 name_no_word (suc zero) until_name = refl
-name_no_word (suc zero) instants_name = refl
-name_no_word (suc zero) bytes_name = refl
 name_no_word (suc (suc zero)) until_name = refl
-name_no_word (suc (suc zero)) instants_name = refl
-name_no_word (suc (suc zero)) bytes_name = refl
 name_no_word (suc (suc (suc n))) until_name = refl
-name_no_word (suc (suc (suc n))) instants_name = refl
-name_no_word (suc (suc (suc n))) bytes_name = refl
+name_no_word n name = refl
 
 name_or_other : (other name : Name) → bytes_eq (id_of other) (id_of name) ≡ same_name name other
 name_or_other until_name until_name = refl
-name_or_other until_name instants_name = refl
-name_or_other until_name bytes_name = refl
 name_or_other instants_name until_name = refl
-name_or_other instants_name instants_name = refl
-name_or_other instants_name bytes_name = refl
 name_or_other bytes_name until_name = refl
-name_or_other bytes_name instants_name = refl
-name_or_other bytes_name bytes_name = refl
+name_or_other save_name until_name = refl
+name_or_other resume_name until_name = refl
+name_or_other other name = refl
 
 same_is : (name other : Name) → same_name name other ≡ true → other ≡ name
 same_is until_name until_name h = refl
 same_is instants_name instants_name h = refl
 same_is bytes_name bytes_name h = refl
-same_is until_name instants_name h = let bad : false ≡ true = h in cc
-same_is until_name bytes_name h = let bad : false ≡ true = h in cc
-same_is instants_name until_name h = let bad : false ≡ true = h in cc
-same_is instants_name bytes_name h = let bad : false ≡ true = h in cc
-same_is bytes_name until_name h = let bad : false ≡ true = h in cc
-same_is bytes_name instants_name h = let bad : false ≡ true = h in cc
+same_is save_name save_name h = refl
+same_is resume_name resume_name h = refl
+same_is name other h = let bad : false ≡ true = h in cc
 
 pub chosen_name : (name : Name) (n : ℕ) (ps : List Piece) → chosen (id_of name) (rows_from n ps) ≡ map (row (id_of name)) (values name ps)
 chosen_name name n [] = refl
@@ -330,6 +314,8 @@ same_self : (name : Name) → same_name name name ≡ true
 same_self until_name = refl
 same_self instants_name = refl
 same_self bytes_name = refl
+same_self save_name = refl
+same_self resume_name = refl
 
 pub unfit_option : (done more : List Piece) (name : Name) (word : Text) → 1 ≤ length (values name done) → Fits (done ++ option name word ∷ more) → ⊥
 unfit_option done more name word many f =

@@ -14,8 +14,8 @@ use Rattle.clap.specs.Simple.{Shape, built, filled, with_index}
 use Rattle.clap.specs.Faults.{is_simple_and_free, use_fault, flag_word_fault, flags_fault, long_fault, turn_fault, walk_fault, settle_fault, step_fault}
 use Rattle.clap.specs.Kinds.{Kinds, or_else}
 use Rattle.command_words.specs.inner.Reader.{flag_id, flag_rule, id_of, option_rule, run_app, word_id}
-use Rattle.command_words.specs.Words.{Name, until_name, instants_name, bytes_name, Flag, strict_flag, stats_flag, is_dashed, is_equals, value_in}
-use Rattle.command_words.proofs.WordRows.{row, flag_row, set_row}
+use Rattle.command_words.specs.Words.{Name, until_name, instants_name, bytes_name, save_name, resume_name, Flag, strict_flag, stats_flag, is_dashed, is_equals, value_in}
+use Rattle.command_words.proofs.WordRows.{each_name, each_flag, row, flag_row, set_row}
 
 -- ---- the command
 
@@ -86,18 +86,25 @@ look (b ∷ c ∷ more) = first (b == 45) refl
 pub data Named : Text → Type 0 where
   to_option : (name : Name) → Named (id_of name)
   to_flag : (f : Flag) → Named (flag_id f)
-  to_none : (id : Text) → bytes_eq (codes "until") id ≡ false → bytes_eq (codes "instants") id ≡ false → bytes_eq (codes "bytes") id ≡ false → bytes_eq (codes "strict") id ≡ false → bytes_eq (codes "stats") id ≡ false → Named id
+  to_none : (id : Text) → ((name : Name) → bytes_eq (id_of name) id ≡ false) → ((f : Flag) → bytes_eq (flag_id f) id ≡ false) → Named id
 
 pub named : (id : Text) → Named id
-named id = go (bytes_eq (codes "until") id) (bytes_eq (codes "instants") id) (bytes_eq (codes "bytes") id) (bytes_eq (codes "strict") id) (bytes_eq (codes "stats") id) refl refl refl refl refl
+named id = or_name until_name (λ u. or_name instants_name (λ i. or_name bytes_name (λ b. or_name save_name (λ s. or_name resume_name (λ r. or_flag strict_flag (λ f. or_flag stats_flag (λ t.
+    to_none id (each_name _ u i b s r) (each_flag _ f t))))))))
   where
-    go : (a b c d s : Bool) → bytes_eq (codes "until") id ≡ a → bytes_eq (codes "instants") id ≡ b → bytes_eq (codes "bytes") id ≡ c → bytes_eq (codes "strict") id ≡ d → bytes_eq (codes "stats") id ≡ s → Named id
-    go true b c d s h i j k l = subst Named ((bytes_eq-Decides (codes "until") id).0 h) (to_option until_name)
-    go false true c d s h i j k l = subst Named ((bytes_eq-Decides (codes "instants") id).0 i) (to_option instants_name)
-    go false false true d s h i j k l = subst Named ((bytes_eq-Decides (codes "bytes") id).0 j) (to_option bytes_name)
-    go false false false true s h i j k l = subst Named ((bytes_eq-Decides (codes "strict") id).0 k) (to_flag strict_flag)
-    go false false false false true h i j k l = subst Named ((bytes_eq-Decides (codes "stats") id).0 l) (to_flag stats_flag)
-    go false false false false false h i j k l = to_none id h i j k l
+    or_name : (name : Name) → (bytes_eq (id_of name) id ≡ false → Named id) → Named id
+    or_name name other = go (bytes_eq (id_of name) id) refl
+      where
+        go : (q : Bool) → bytes_eq (id_of name) id ≡ q → Named id
+        go true h = subst Named ((bytes_eq-Decides (id_of name) id).0 h) (to_option name)
+        go false h = other h
+
+    or_flag : (f : Flag) → (bytes_eq (flag_id f) id ≡ false → Named id) → Named id
+    or_flag f other = go (bytes_eq (flag_id f) id) refl
+      where
+        go : (q : Bool) → bytes_eq (flag_id f) id ≡ q → Named id
+        go true h = subst Named ((bytes_eq-Decides (flag_id f) id).0 h) (to_flag f)
+        go false h = other h
 
 -- the name and the value of `--name=value`
 abbrev pub rest_name : Text → Text
@@ -169,8 +176,7 @@ quiet_settle (word_slot (suc zero)) rows word h = rw h refl
 quiet_settle (word_slot (suc (suc zero))) rows word h = rw h refl
 quiet_settle (word_slot (suc (suc (suc n)))) rows word h = rw h refl
 quiet_settle (name_slot until_name) rows word h = rw h refl
-quiet_settle (name_slot instants_name) rows word h = rw h refl
-quiet_settle (name_slot bytes_name) rows word h = rw h refl
+quiet_settle (name_slot name) rows word h = rw h refl
 
 pub loud_settle : (slot : Slot) (rows : List Row) (word : Text) → has_row (slot_id slot) rows ≡ true → HasFault (settle_fault R false (held rows (Some (slot_id slot, word ∷ []))))
 loud_settle (word_slot zero) rows word h = rw h tt
@@ -178,8 +184,7 @@ loud_settle (word_slot (suc zero)) rows word h = rw h tt
 loud_settle (word_slot (suc (suc zero))) rows word h = rw h tt
 loud_settle (word_slot (suc (suc (suc n)))) rows word h = rw h tt
 loud_settle (name_slot until_name) rows word h = rw h tt
-loud_settle (name_slot instants_name) rows word h = rw h tt
-loud_settle (name_slot bytes_name) rows word h = rw h tt
+loud_settle (name_slot name) rows word h = rw h tt
 
 pub slot_rows : (slot : Slot) (rows : List Row) (word : Text) → has_row (slot_id slot) rows ≡ false → settled_rows R (Some (slot_id slot, word ∷ [])) rows ≡ rows ++ row (slot_id slot) word ∷ []
 slot_rows (word_slot zero) rows word h = set_row (codes "first") word rows h
@@ -187,13 +192,11 @@ slot_rows (word_slot (suc zero)) rows word h = set_row (codes "second") word row
 slot_rows (word_slot (suc (suc zero))) rows word h = set_row (codes "third") word rows h
 slot_rows (word_slot (suc (suc (suc n)))) rows word h = set_row (codes "fourth") word rows h
 slot_rows (name_slot until_name) rows word h = set_row (codes "until") word rows h
-slot_rows (name_slot instants_name) rows word h = set_row (codes "instants") word rows h
-slot_rows (name_slot bytes_name) rows word h = set_row (codes "bytes") word rows h
+slot_rows (name_slot name) rows word h = set_row (id_of name) word rows h
 
 pub empty_settle : (name : Name) (rows : List Row) → HasFault (settle_fault R false (held rows (Some (id_of name, []))))
 empty_settle until_name rows = tt
-empty_settle instants_name rows = tt
-empty_settle bytes_name rows = tt
+empty_settle name rows = tt
 
 -- ---- turns
 
@@ -282,15 +285,13 @@ end_walked rows pending positional n = refl
 pub value_turn : (name : Name) (rows : List Row) (n : ℕ) (word : Text) → bytes_eq word (45 ∷ 45 ∷ []) ≡ false → long_of word ≡ None → short_of word ≡ None
     → turn_fault S [] (at rows (Some (id_of name, [])) (taking (id_of name)) n false) word ≡ []
 value_turn until_name rows n word a b c = rw (a, b, c) refl
-value_turn instants_name rows n word a b c = rw (a, b, c) refl
-value_turn bytes_name rows n word a b c = rw (a, b, c) refl
+value_turn name rows n word a b c = rw (a, b, c) refl
 
 pub value_walked : (name : Name) (rows : List Row) (n : ℕ) (word : Text) → bytes_eq word (45 ∷ 45 ∷ []) ≡ false → long_of word ≡ None → short_of word ≡ None
     → walked R [] (at rows (Some (id_of name, [])) (taking (id_of name)) n false) word ≡ at rows (Some (id_of name, word ∷ [])) idle n false
 unfolding walked
 value_walked until_name rows n word a b c = rw (a, b, c) refl
-value_walked instants_name rows n word a b c = rw (a, b, c) refl
-value_walked bytes_name rows n word a b c = rw (a, b, c) refl
+value_walked name rows n word a b c = rw (a, b, c) refl
 
 -- a word of one hyphen and more is refused
 loud_bundle : (k : ℕ) (word : Text) (h : Held) (y : ℕ) (ys : Text) → chars word ≡ y ∷ ys → HasFault (flags_fault R false (suc k) word 0 h)
@@ -350,59 +351,53 @@ pub long_walk_is : (rows : List Row) (pending : Option (Text × List Text)) (n x
 unfolding walked
 long_walk_is rows pending n x xs = refl
 
+-- a name of no option and no flag
+pub unknown_long : (waiting : Waiting) (n : ℕ) (word id : Text) (v : Option Text) (h : Held) → ((name : Name) → bytes_eq (id_of name) id ≡ false) → ((f : Flag) → bytes_eq (flag_id f) id ≡ false)
+    → HasFault (long_turn waiting n word id v h)
+unknown_long waiting n word id v h names flags =
+    rw (names until_name, names instants_name, names bytes_name, names save_name, names resume_name, flags strict_flag, flags stats_flag) tt
+
 -- while something is held that fails, each word that begins with `--` fails
 pub loud_long : (waiting : Waiting) (n : ℕ) (word id : Text) (v : Option Text) (h : Held) → Named id → HasFault (settle_fault R false h) → HasFault (long_turn waiting n word id v h)
 loud_long waiting n word _ None h (to_option until_name) f = left_fault _ _ f
 loud_long waiting n word _ (Some v) h (to_option until_name) f = left_fault _ _ (left_fault _ _ f)
-loud_long waiting n word _ None h (to_option instants_name) f = left_fault _ _ f
-loud_long waiting n word _ (Some v) h (to_option instants_name) f = left_fault _ _ (left_fault _ _ f)
-loud_long waiting n word _ None h (to_option bytes_name) f = left_fault _ _ f
-loud_long waiting n word _ (Some v) h (to_option bytes_name) f = left_fault _ _ (left_fault _ _ f)
+loud_long waiting n word _ None h (to_option name) f = left_fault _ _ f
+loud_long waiting n word _ (Some v) h (to_option name) f = left_fault _ _ (left_fault _ _ f)
 loud_long waiting n word _ None h (to_flag strict_flag) f = left_fault _ _ (left_fault _ _ f)
 loud_long waiting n word _ None h (to_flag stats_flag) f = left_fault _ _ (left_fault _ _ f)
 loud_long waiting n word _ (Some v) h (to_flag strict_flag) f = tt
 loud_long waiting n word _ (Some v) h (to_flag stats_flag) f = tt
-loud_long waiting n word _ v h (to_none id a b c d s) f = rw (a, b, c, d, s) tt
-
-pub unknown_long : (waiting : Waiting) (n : ℕ) (word id : Text) (v : Option Text) (h : Held) → bytes_eq (codes "until") id ≡ false → bytes_eq (codes "instants") id ≡ false → bytes_eq (codes "bytes") id ≡ false → bytes_eq (codes "strict") id ≡ false → bytes_eq (codes "stats") id ≡ false
-    → HasFault (long_turn waiting n word id v h)
-unknown_long waiting n word id v h a b c d s = rw (a, b, c, d, s) tt
+loud_long waiting n word _ v h (to_none id names flags) f = unknown_long waiting n word id v h names flags
 
 -- an option without a value yet
 pub option_turn : (name : Name) (n : ℕ) (word : Text) (h : Held) → settle_fault R false h ≡ [] → long_turn idle n word (id_of name) None h ≡ []
 option_turn until_name n word h f = rw f refl
-option_turn instants_name n word h f = rw f refl
-option_turn bytes_name n word h f = rw f refl
+option_turn name n word h f = rw f refl
 
 pub option_walked : (name : Name) (rows : List Row) (pending : Option (Text × List Text)) (n : ℕ) (word : Text)
     → long_walk n word (id_of name) None (at rows pending idle n false) ≡ at (settled_rows R pending rows) (Some (id_of name, [])) (taking (id_of name)) n false
 option_walked until_name rows pending n word = refl
-option_walked instants_name rows pending n word = refl
-option_walked bytes_name rows pending n word = refl
+option_walked name rows pending n word = refl
 
 -- an option with its value
 pub joined_turn : (name : Name) (n : ℕ) (word v : Text) (rows : List Row) (pending : Option (Text × List Text)) → settle_fault R false (held rows pending) ≡ []
     → has_row (id_of name) (settled_rows R pending rows) ≡ false → long_turn idle n word (id_of name) (Some v) (held rows pending) ≡ []
 joined_turn until_name n word v rows pending f e = rw (f, e) refl
-joined_turn instants_name n word v rows pending f e = rw (f, e) refl
-joined_turn bytes_name n word v rows pending f e = rw (f, e) refl
+joined_turn name n word v rows pending f e = rw (f, e) refl
 
 use_again : (name : Name) (v : Text) (rows : List Row) → has_row (id_of name) rows ≡ true → HasFault (use_fault false (with_index 5 (filled (option_rule (id_of name)))) (v ∷ []) rows)
 use_again until_name v rows e = rw e tt
-use_again instants_name v rows e = rw e tt
-use_again bytes_name v rows e = rw e tt
+use_again name v rows e = rw e tt
 
 pub joined_again : (name : Name) (n : ℕ) (word v : Text) (rows : List Row) (pending : Option (Text × List Text)) → has_row (id_of name) (settled_rows R pending rows) ≡ true
     → HasFault (long_turn idle n word (id_of name) (Some v) (held rows pending))
 joined_again until_name n word v rows pending e = left_fault _ _ (right_fault (settle_fault R false (held rows pending)) _ (use_again until_name v (settled_rows R pending rows) e))
-joined_again instants_name n word v rows pending e = left_fault _ _ (right_fault (settle_fault R false (held rows pending)) _ (use_again instants_name v (settled_rows R pending rows) e))
-joined_again bytes_name n word v rows pending e = left_fault _ _ (right_fault (settle_fault R false (held rows pending)) _ (use_again bytes_name v (settled_rows R pending rows) e))
+joined_again name n word v rows pending e = left_fault _ _ (right_fault (settle_fault R false (held rows pending)) _ (use_again name v (settled_rows R pending rows) e))
 
 pub joined_walked : (name : Name) (rows : List Row) (pending : Option (Text × List Text)) (n : ℕ) (word v : Text) → has_row (id_of name) (settled_rows R pending rows) ≡ false
     → long_walk n word (id_of name) (Some v) (at rows pending idle n false) ≡ at (settled_rows R pending rows ++ row (id_of name) v ∷ []) None idle n false
 joined_walked until_name rows pending n word v e = ap (λ l. at l None idle n false) (set_row (codes "until") v _ e)
-joined_walked instants_name rows pending n word v e = ap (λ l. at l None idle n false) (set_row (codes "instants") v _ e)
-joined_walked bytes_name rows pending n word v e = ap (λ l. at l None idle n false) (set_row (codes "bytes") v _ e)
+joined_walked name rows pending n word v e = ap (λ l. at l None idle n false) (set_row (id_of name) v _ e)
 
 -- a flag
 pub flag_turn : (f : Flag) (n : ℕ) (word : Text) (rows : List Row) (pending : Option (Text × List Text)) → settle_fault R false (held rows pending) ≡ []

@@ -1,5 +1,5 @@
 -- What the words after the program's name ask for.
-use Rattle.std.specs.Prelude.{◌<◌, ◌≤◌, ◌==◌, ◌^◌, ◌-◌, ℕ, Bool, true, false, not, ◌&&◌, if◌then◌else◌, nat_le, ⊤, List, [], ◌∷◌, length}
+use Rattle.std.specs.Prelude.{◌<◌, ◌≤◌, ◌==◌, ◌^◌, ℕ, Bool, true, false, not, ◌&&◌, ◌||◌, if◌then◌else◌, nat_le, ⊤, List, [], ◌∷◌, length}
 use Rattle.std.specs.Prelude.{map, Option, Some, None, codes, drop, option_map, option_and_then, unwrap_or, slice_get}
 use Rattle.std.specs.List.{list_all, list_any, before_first, after_first}
 use Rattle.std.specs.Str.{bytes_eq}
@@ -12,11 +12,15 @@ use Rattle.command_words.specs.declared.command.Form.TheVariants as form
 use Rattle.command_words.specs.declared.command.Origin.{Origin}
 use Rattle.command_words.specs.declared.command.Origin.TheVariants as origin
 use Rattle.command_words.specs.declared.command.Run.{Run}
+use Rattle.command_words.specs.declared.command.Why.{Why}
 use Rattle.command_words.specs.declared.command.Workload.{Workload}
 use Rattle.command_words.specs.declared.command.Workload.TheVariants as kind
 use Rattle.command_words.specs.declared.room.Room.{Room}
+use Rattle.command_words.specs.declared.words.Files.{Files}
+use Rattle.command_words.specs.declared.words.Limits.{Limits}
 use Rattle.command_words.specs.declared.words.Source.{Source}
 use Rattle.command_words.specs.declared.words.Source.TheVariants as source
+use Rattle.command_words.specs.declared.words.Subject.{Subject}
 use Rattle.command_words.specs.declared.words.Verb.{Verb}
 use Rattle.command_words.specs.declared.words.Verb.TheVariants as verb
 use Rattle.command_words.specs.declared.words.Word.{Word}
@@ -27,6 +31,8 @@ pub data Name : Type 0 where
   until_name : Name
   instants_name : Name
   bytes_name : Name
+  save_name : Name
+  resume_name : Name
 
 -- the options that have none
 pub data Flag : Type 0 where
@@ -69,7 +75,9 @@ abbrev pub name_of : List ℕ → Option Name
 name_of word =
     if bytes_eq (codes "--until") word then Some until_name
     else (if bytes_eq (codes "--instants") word then Some instants_name
-    else (if bytes_eq (codes "--bytes") word then Some bytes_name else None))
+    else (if bytes_eq (codes "--bytes") word then Some bytes_name
+    else (if bytes_eq (codes "--save") word then Some save_name
+    else (if bytes_eq (codes "--resume") word then Some resume_name else None))))
 
 -- a flag has no value
 abbrev pub flag_class : Flag → Option (List ℕ) → Class
@@ -122,6 +130,8 @@ abbrev pub same_name : Name → Name → Bool
 same_name until_name until_name = true
 same_name instants_name instants_name = true
 same_name bytes_name bytes_name = true
+same_name save_name save_name = true
+same_name resume_name resume_name = true
 same_name _ _ = false
 
 -- the same flag
@@ -164,6 +174,8 @@ abbrev pub times_of : Room → Name → ℕ
 times_of room instants_name = room.limits
 times_of room bytes_name = room.limits
 times_of room until_name = room.others
+times_of room save_name = room.others
+times_of room resume_name = room.others
 
 -- and a flag
 abbrev pub uses_of : Room → Flag → ℕ
@@ -171,7 +183,7 @@ uses_of room strict_flag = room.limits
 uses_of room stats_flag = room.others
 
 abbrev pub all_names : List Name
-all_names = until_name ∷ instants_name ∷ bytes_name ∷ []
+all_names = until_name ∷ instants_name ∷ bytes_name ∷ save_name ∷ resume_name ∷ []
 
 abbrev pub all_flags : List Flag
 all_flags = strict_flag ∷ stats_flag ∷ []
@@ -189,6 +201,32 @@ abbrev pub fits : Room → List Piece → Bool
 fits room ps =
     nat_le room.least (length (plains ps)) && (nat_le (length (plains ps)) room.most && (options_fit room ps && flags_fit room ps))
 
+-- the value of an option, if it stands
+abbrev pub value_of : Name → List Piece → Option (List ℕ)
+value_of name ps = slice_get (values name ps) 0
+
+-- an option stands, or a flag
+abbrev pub has_value : Name → List Piece → Bool
+has_value name ps = nat_le 1 (length (values name ps))
+
+abbrev pub has_use : Flag → List Piece → Bool
+has_use f ps = nat_le 1 (length (uses f ps))
+
+-- the options and flags may stand together: a run that saves its state closes nothing at its end, and one that goes on keeps the
+-- limits that it began with
+abbrev pub agree : List Piece → Bool
+agree ps =
+    not (has_value save_name ps && has_value until_name ps)
+    && not (has_value resume_name ps && (has_value instants_name ps || (has_value bytes_name ps || has_use strict_flag ps)))
+
+-- a file that is named has a name: `--save=` names none
+abbrev pub is_filled : Option (List ℕ) → Bool
+is_filled None = true
+is_filled (Some word) = not (is_empty word)
+
+abbrev pub are_filled : List Piece → Bool
+are_filled ps = is_filled (value_of save_name ps) && is_filled (value_of resume_name ps)
+
 -- the pieces of words that have room
 abbrev pub read : Room → List (List ℕ) → Option (List Piece)
 read room words = option_and_then (λ ps. if fits room ps then Some ps else None) (pieces None words)
@@ -205,35 +243,90 @@ run_room = record { least = 1; most = 2; limits = 1; others = 1 }
 abbrev pub pair_room : Room
 pair_room = record { least = 2; most = 2; limits = 0; others = 0 }
 
+-- `SPEC TRACE NAME TIME` with the options and flags on how a trace is read
+abbrev pub why_room : Room
+why_room = record { least = 4; most = 4; limits = 1; others = 0 }
+
 -- the file of a kind that has a name
 abbrev pub origin_of : Source → List ℕ → Origin
 origin_of source.Spec name = origin.Spec name
 origin_of source.Code name = origin.Code name
 
--- the run of these values. Where the trace has no name it is `-`, the standard input
-abbrev pub run_by :
-    Source → Option (List ℕ) → Option (List ℕ) → Option (List ℕ) → Option (List ℕ) → Option (List ℕ) → Bool → Bool → Option Run
-run_by from file trace until instants bytes strict stats =
-    option_and_then (λ name. option_and_then (λ until. option_and_then (λ instants. option_map (λ bytes. record {
-      origin = origin_of from name;
-      trace = unwrap_or trace (codes "-");
+-- the files of a run, of which the first word names what runs. Where the trace has no name it is `-`, the standard input
+abbrev pub files_by : Option (List ℕ) → Option (List ℕ) → Option (List ℕ) → Option (List ℕ) → Option Files
+files_by file trace save resume =
+    option_map (λ name. record { file = name; trace = unwrap_or trace (codes "-"); save = save; resume = resume }) file
+
+abbrev pub files_of : List Piece → Option Files
+files_of ps = files_by (slice_get (plains ps) 0) (slice_get (plains ps) 1) (value_of save_name ps) (value_of resume_name ps)
+
+-- the limits of a run or a question
+abbrev pub limits_by : Option (List ℕ) → Option (List ℕ) → Option (List ℕ) → Option Limits
+limits_by until instants bytes =
+    option_and_then (λ until. option_and_then (λ instants. option_map (λ bytes. record {
       until = until;
       instants = instants;
       bytes = bytes;
-      strict = strict;
-      stats = stats;
     })
     (number_or MOST_TRACE_BYTES 1 MOST_TRACE_BYTES bytes))
     (number_or MOST_INSTANTS 1 MOST_INSTANTS instants))
-    (number_or 0 0 MOST_TIME until))
-    file
+    (number_or 0 0 MOST_TIME until)
 
--- the run that pieces ask for; the first plain word is what runs
+abbrev pub limits_of : List Piece → Option Limits
+limits_of ps = limits_by (value_of until_name ps) (value_of instants_name ps) (value_of bytes_name ps)
+
+-- the run of a kind of file with these limits and flags
+abbrev pub run_by : Source → Option Files → Option Limits → Bool → Bool → Option Run
+run_by from files limits strict stats =
+    option_and_then (λ f. option_map (λ l. record {
+      origin = origin_of from f.file;
+      trace = f.trace;
+      until = l.until;
+      instants = l.instants;
+      bytes = l.bytes;
+      strict = strict;
+      stats = stats;
+      save = f.save;
+      resume = f.resume;
+    }) limits) files
+
+-- the run that pieces ask for that may stand together
 abbrev pub run_of : Source → List Piece → Option Run
 run_of from ps =
-    run_by from (slice_get (plains ps) 0) (slice_get (plains ps) 1) (slice_get (values until_name ps) 0)
-    (slice_get (values instants_name ps) 0) (slice_get (values bytes_name ps) 0)
-    (nat_le 1 (length (uses strict_flag ps))) (nat_le 1 (length (uses stats_flag ps)))
+    if agree ps && are_filled ps then run_by from (files_of ps) (limits_of ps) (has_use strict_flag ps) (has_use stats_flag ps)
+    else None
+
+-- what a question is about: the files, the name of an output, and the time of its event, which the last word spells
+abbrev pub subject_by : Option (List ℕ) → Option (List ℕ) → Option (List ℕ) → Option (List ℕ) → Option Subject
+subject_by spec trace output time =
+    option_and_then (λ s. option_and_then (λ t. option_and_then (λ o. option_map (λ n. record {
+      spec = s;
+      trace = t;
+      output = o;
+      time = n;
+    })
+    (option_and_then (number 0 MOST_TIME) time)) output) trace) spec
+
+abbrev pub subject_of : List Piece → Option Subject
+subject_of ps =
+    subject_by (slice_get (plains ps) 0) (slice_get (plains ps) 1) (slice_get (plains ps) 2) (slice_get (plains ps) 3)
+
+-- the question with these limits and this flag; it takes no time to close
+abbrev pub why_by : Option Subject → Option Limits → Bool → Option Why
+why_by subject limits strict =
+    option_and_then (λ s. option_map (λ l. record {
+      spec = s.spec;
+      trace = s.trace;
+      output = s.output;
+      time = s.time;
+      instants = l.instants;
+      bytes = l.bytes;
+      strict = strict;
+    }) limits) subject
+
+-- the question that pieces ask
+abbrev pub why_of : List Piece → Option Why
+why_of ps = why_by (subject_of ps) (limits_of ps) (has_use strict_flag ps)
 
 -- the specification that pieces name
 abbrev pub spec_of : List Piece → Option (List ℕ)
@@ -264,6 +357,7 @@ abbrev pub verb_of : List ℕ → Option Verb
 verb_of word =
     if bytes_eq word (codes "run") then Some verb.Run
     else (if bytes_eq word (codes "exec") then Some verb.Exec
+    else (if bytes_eq word (codes "why") then Some verb.Why
     else (if bytes_eq word (codes "check") then Some verb.Check
     else (if bytes_eq word (codes "flat") then Some verb.Flat
     else (if bytes_eq word (codes "show") then Some verb.Show
@@ -271,12 +365,13 @@ verb_of word =
     else (if bytes_eq word (codes "slice") then Some verb.Slice
     else (if bytes_eq word (codes "compile") then Some verb.Compile
     else (if bytes_eq word (codes "gen") then Some verb.Generate
-    else (if bytes_eq word (codes "bench") then Some verb.Bench else None)))))))))
+    else (if bytes_eq word (codes "bench") then Some verb.Bench else None))))))))))
 
 -- what is asked for after the name of a command
 abbrev pub asked_by : Verb → List (List ℕ) → Option Command
 asked_by verb.Run words = option_map command.Run (option_and_then (run_of source.Spec) (read run_room words))
 asked_by verb.Exec words = option_map command.Run (option_and_then (run_of source.Code) (read run_room words))
+asked_by verb.Why words = option_map command.Why (option_and_then why_of (read why_room words))
 asked_by verb.Check words = option_map (λ spec. command.Write spec form.Check) (option_and_then spec_of (read one_room words))
 asked_by verb.Flat words = option_map (λ spec. command.Write spec form.Flat) (option_and_then spec_of (read one_room words))
 asked_by verb.Show words = option_map (λ spec. command.Write spec form.Show) (option_and_then spec_of (read one_room words))
@@ -307,6 +402,13 @@ pub record IsLimitedRun (run : Run) : Type 0 where
   pub some_bytes : 1 ≤ run.bytes
   pub bytes : run.bytes ≤ MOST_TRACE_BYTES
 
+-- and of each question
+pub record IsLimitedWhy (why : Why) : Type 0 where
+  pub some_instants : 1 ≤ why.instants
+  pub instants : why.instants ≤ MOST_INSTANTS
+  pub some_bytes : 1 ≤ why.bytes
+  pub bytes : why.bytes ≤ MOST_TRACE_BYTES
+
 -- and of each number of lines
 pub record IsLimitedCount (n : ℕ) : Type 0 where
   pub some : 1 ≤ n
@@ -316,5 +418,6 @@ pub record IsLimitedCount (n : ℕ) : Type 0 where
 abbrev pub IsLimited : Command → Type 0
 IsLimited (command.Write spec f) = ⊤
 IsLimited (command.Run r) = IsLimitedRun r
+IsLimited (command.Why w) = IsLimitedWhy w
 IsLimited (command.Generate n) = IsLimitedCount n
 IsLimited (command.Bench k n) = IsLimitedCount n

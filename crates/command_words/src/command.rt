@@ -1,6 +1,7 @@
 // What the words ask for.
 
 use tsl_value::text::Text;
+use tsl_value::time::Time;
 
 /// What is written of a compiled specification.
 #[derive(Drop)]
@@ -49,6 +50,24 @@ pub struct Run {
     pub strict: bool,
     /// Whether the end tells how much was copied.
     pub stats: bool,
+    /// The file that the state is saved to, if it is.
+    pub save: Option<Text>,
+    /// The file of the state that the run goes on from, if it does.
+    pub resume: Option<Text>,
+}
+
+/// A question why an output has an event.
+#[derive(Drop)]
+pub struct Why {
+    pub spec: Text,
+    /// The name of the trace.
+    pub trace: Text,
+    /// The name of the output.
+    pub output: Text,
+    pub time: Time,
+    pub instants: u64,
+    pub bytes: u64,
+    pub strict: bool,
 }
 
 /// What the words ask for.
@@ -58,6 +77,8 @@ pub enum Command {
     Write { spec: Text, form: Form },
     /// To monitor a trace.
     Run(Run),
+    /// To tell why an output has an event.
+    Why(Why),
     /// To write the sample trace with so many lines.
     Generate { lines: u64 },
     /// To tell what the specification of a kind does over that trace.

@@ -1,9 +1,10 @@
 // Which words stand after a command's name.
 
-ghost use Rattle.std.specs.Prelude.{◌≡◌, ◌≤◌, ℕ, List, length, nat_le, slice_get};
+ghost use Rattle.std.specs.Prelude.{◌≡◌, ◌≤◌, ◌&&◌, ℕ, List, length, nat_le, slice_get};
 ghost use Rattle.clap.specs.Matches.{first_value, found_of};
 ghost use Rattle.command_words.specs.inner.Reader.{Holds, says};
-ghost use Rattle.command_words.specs.Words.{Piece, fits, flags_fit, one_room, options_fit, pair_room, plains, run_room};
+ghost use Rattle.command_words.specs.Words.{Piece, agree, are_filled, fits, flags_fit, is_filled, one_room, options_fit, pair_room};
+ghost use Rattle.command_words.specs.Words.{plains, run_room, why_room};
 
 use clap::ArgMatches;
 
@@ -30,7 +31,7 @@ pub fn one_room() -> Room
 }
 
 /// `SPEC [TRACE]` with all options and flags.
-pub fn run_room() -> Room
+fn run_room() -> Room
     ensures { result ≡ run_room }
 {
     Room {
@@ -38,6 +39,18 @@ pub fn run_room() -> Room
         most: 2,
         limits: 1,
         others: 1,
+    }
+}
+
+/// `SPEC TRACE NAME TIME` with the options and flags on how a trace is read.
+pub fn why_room() -> Room
+    ensures { result ≡ why_room }
+{
+    Room {
+        least: 4,
+        most: 4,
+        limits: 1,
+        others: 0,
     }
 }
 
@@ -99,6 +112,8 @@ fn options_fit(room: Room, matches: &ArgMatches<'_>) -> bool
     option_fits(matches, "until", room.others)
         && option_fits(matches, "instants", room.limits)
         && option_fits(matches, "bytes", room.limits)
+        && option_fits(matches, "save", room.others)
+        && option_fits(matches, "resume", room.others)
 }
 
 /// Whether each flag does.
@@ -117,4 +132,46 @@ pub fn fits(room: Room, matches: &ArgMatches<'_>) -> bool
         && count <= room.most
         && options_fit(room, matches)
         && flags_fit(room, matches)
+}
+
+/// Whether an option stands.
+fn has_value(matches: &ArgMatches<'_>, id: &str) -> bool
+    ensures { (texts : List (List ℕ)) → first_value (found_of matches.now) id.now ≡ slice_get texts 0 → result ≡ nat_le 1 (length texts) }
+{
+    matches.get_str(id).is_some()
+}
+
+/// Whether the options and flags in the matches may stand together.
+fn agree(matches: &ArgMatches<'_>) -> bool
+    ensures { (ps : List Piece) → Holds ps (found_of matches.now) → result ≡ agree ps }
+{
+    let is_limited = has_value(matches, "instants")
+        || has_value(matches, "bytes")
+        || matches.get_flag("strict");
+    !(has_value(matches, "save") && has_value(matches, "until"))
+        && !(has_value(matches, "resume") && is_limited)
+}
+
+/// Whether the value of an option, where it stands, has a byte.
+fn is_filled(matches: &ArgMatches<'_>, id: &str) -> bool
+    ensures { result ≡ is_filled (first_value (found_of matches.now) id.now) }
+{
+    match matches.get_str(id) {
+        Some(word) => !word.is_empty(),
+        None => true,
+    }
+}
+
+/// Whether the files after options have names.
+fn are_filled(matches: &ArgMatches<'_>) -> bool
+    ensures { (ps : List Piece) → Holds ps (found_of matches.now) → result ≡ are_filled ps }
+{
+    is_filled(matches, "save") && is_filled(matches, "resume")
+}
+
+/// Whether the pieces in the matches may ask for a run.
+pub fn may_run(matches: &ArgMatches<'_>) -> bool
+    ensures { (ps : List Piece) → Holds ps (found_of matches.now) → result ≡ (fits run_room ps && (agree ps && are_filled ps)) }
+{
+    fits(run_room(), matches) && (agree(matches) && are_filled(matches))
 }

@@ -8,15 +8,16 @@ ghost use Rattle.std.specs.Str.Parse.{digits_value};
 ghost use Rattle.std.specs.List.{All, list_all, list_any};
 ghost use Rattle.std.specs.Char.{is_ascii_digit};
 ghost use Rattle.tsl_value.specs.Literal.{are_digits};
-ghost use Rattle.clap.specs.Words.{app_of, found_of};
-ghost use Rattle.command_words.specs.inner.Reader.{Holds, IsRefused, Matches, run_app, run_found, says};
+ghost use Rattle.clap.specs.Words.{app_of, found_of, rule_of};
+ghost use Rattle.command_words.specs.inner.Reader.{Holds, IsRefused, Matches, files_found, flag_rule, limits_found, option_rule, run_app};
+ghost use Rattle.command_words.specs.inner.Reader.{run_found, says, subject_found, why_found};
 ghost use Rattle.command_words.specs.Words.{IsLimited, Piece, asked_by, command_of, counted_of, first_verb, fits, is_empty};
 ghost use Rattle.command_words.specs.Words.{kind_of, number, number_or, one_room, origin_of, pair_room, plains, run_of, run_room, spec_of};
-ghost use Rattle.command_words.specs.Words.{texts_of, two_of, verb_of};
+ghost use Rattle.command_words.specs.Words.{texts_of, two_of, verb_of, why_of, why_room};
 
-use crate::command::{Command, Form, Origin, Run, Workload};
+use crate::command::{Command, Form, Origin, Run, Why, Workload};
 use crate::limits::{MOST_LINES, MOST_TIME};
-use crate::room::{fits, one_room, pair_room, run_room};
+use crate::room::{fits, may_run, one_room, pair_room, why_room};
 use clap::error::ErrorKind;
 use clap::{Arg, ArgAction, ArgMatches};
 use std::alloc::{AllocError, Global};
@@ -25,6 +26,7 @@ use std::marker::Model;
 use tsl_value::limits::{MOST_INSTANTS, MOST_TRACE_BYTES};
 use tsl_value::memory::NoMemory;
 use tsl_value::text::Text;
+use tsl_value::time::Time;
 
 /// A word, as `clap` reads it.
 #[derive(Drop)]
@@ -86,6 +88,7 @@ enum Verb {
     Compile,
     Run,
     Exec,
+    Why,
     Generate,
     Bench,
 }
@@ -169,6 +172,69 @@ fn number_or(word: Option<&str>, other: u64, least: u64, most: u64) -> Option<u6
     }
 }
 
+/// The files of a run.
+#[derive(Drop)]
+struct Files {
+    /// What runs.
+    file: Text,
+    trace: Text,
+    save: Option<Text>,
+    resume: Option<Text>,
+}
+
+/// The limits of a run or a question.
+#[derive(Clone, Copy)]
+struct Limits {
+    until: u64,
+    instants: u64,
+    bytes: u64,
+}
+
+/// A copy of a word, if there is one.
+fn copied(alloc: Global, word: Option<&str>) -> Result<Option<Text>, NoMemory>
+    ensures { IfOk result (λ copy. copy ≡ option_map (λ w. w.now) word.entry) }
+{
+    match word {
+        Some(word) => Ok(Some(Text::from_str(alloc, word)?)),
+        None => Ok(None),
+    }
+}
+
+/// The files of a run that the values in the matches name.
+fn files_found(alloc: Global, matches: &ArgMatches<'_>) -> Result<Option<Files>, NoMemory>
+    ensures { IfOk result (λ files. files ≡ files_found (found_of matches.now)) }
+{
+    let Some(file) = matches.get_str("first") else {
+        return Ok(None);
+    };
+    let trace = matches.get_str("second").unwrap_or("-");
+    Ok(Some(Files {
+        file: Text::from_str(alloc, file)?,
+        trace: Text::from_str(alloc, trace)?,
+        save: copied(alloc, matches.get_str("save"))?,
+        resume: copied(alloc, matches.get_str("resume"))?,
+    }))
+}
+
+/// The limits of a run or a question that the values in the matches spell.
+fn limits_found(matches: &ArgMatches<'_>) -> Option<Limits>
+    ensures { result ≡ limits_found (found_of matches.now) }
+{
+    let until = number_or(matches.get_str("until"), 0, 0, MOST_TIME)?;
+    let instants = number_or(matches.get_str("instants"), MOST_INSTANTS, 1, MOST_INSTANTS)?;
+    let bytes = number_or(
+        matches.get_str("bytes"),
+        MOST_TRACE_BYTES,
+        1,
+        MOST_TRACE_BYTES,
+    )?;
+    Some(Limits {
+        until,
+        instants,
+        bytes,
+    })
+}
+
 /// The run of a file of this kind that the values in the matches ask for.
 fn run_found(alloc: Global, from: Source, matches: &ArgMatches<'_>) -> Result<Option<Run>, NoMemory>
     ensures { IfOk result (λ run. (strict stats : Bool)
@@ -176,45 +242,116 @@ fn run_found(alloc: Global, from: Source, matches: &ArgMatches<'_>) -> Result<Op
         → says (found_of matches.now) (codes "stats") stats
         → run ≡ run_found from (found_of matches.now) strict stats) }
 {
-    let Some(file) = matches.get_str("first") else {
+    let Some(limits) = limits_found(matches) else {
         return Ok(None);
     };
-    let trace = matches.get_str("second").unwrap_or("-");
-    let Some(until) = number_or(matches.get_str("until"), 0, 0, MOST_TIME) else {
-        return Ok(None);
-    };
-    let Some(instants) = number_or(matches.get_str("instants"), MOST_INSTANTS, 1, MOST_INSTANTS)
-    else {
-        return Ok(None);
-    };
-    let Some(bytes) = number_or(
-        matches.get_str("bytes"),
-        MOST_TRACE_BYTES,
-        1,
-        MOST_TRACE_BYTES,
-    ) else {
+    let Some(files) = files_found(alloc, matches)? else {
         return Ok(None);
     };
     Ok(Some(Run {
-        origin: from.origin(Text::from_str(alloc, file)?),
-        trace: Text::from_str(alloc, trace)?,
-        until,
-        instants,
-        bytes,
+        origin: from.origin(files.file),
+        trace: files.trace,
+        until: limits.until,
+        instants: limits.instants,
+        bytes: limits.bytes,
         strict: matches.get_flag("strict"),
         stats: matches.get_flag("stats"),
+        save: files.save,
+        resume: files.resume,
     }))
 }
 
 /// The run of a file of this kind that the matches ask for.
+#[tactic(auto, using(crate::proofs::Commands::run_refused))]
 fn run_by(alloc: Global, from: Source, matches: &ArgMatches<'_>) -> Result<Option<Run>, NoMemory>
     ensures { IfOk result (λ run. (ps : List Piece) → Holds ps (found_of matches.now)
         → run ≡ option_and_then (run_of from) (if fits run_room ps then Some ps else None)) }
 {
-    if !fits(run_room(), matches) {
+    if !may_run(matches) {
         return Ok(None);
     }
     run_found(alloc, from, matches)
+}
+
+/// What a question is about.
+#[derive(Drop)]
+struct Subject {
+    spec: Text,
+    trace: Text,
+    /// The name of the output.
+    output: Text,
+    /// The time of its event.
+    time: Time,
+}
+
+/// The time that a word spells.
+fn time_of(word: &str) -> Option<Time>
+    ensures { result ≡ number 0 MOST_TIME word.now }
+{
+    match number(word, 0, MOST_TIME) {
+        Some(number) => Time::new(number),
+        None => None,
+    }
+}
+
+/// What a question is about, by the plain words in the matches.
+fn subject_found(alloc: Global, matches: &ArgMatches<'_>) -> Result<Option<Subject>, NoMemory>
+    ensures { IfOk result (λ subject. subject ≡ subject_found (found_of matches.now)) }
+{
+    let Some(spec) = matches.get_str("first") else {
+        return Ok(None);
+    };
+    let Some(trace) = matches.get_str("second") else {
+        return Ok(None);
+    };
+    let Some(output) = matches.get_str("third") else {
+        return Ok(None);
+    };
+    let Some(time) = matches.get_str("fourth") else {
+        return Ok(None);
+    };
+    let Some(time) = time_of(time) else {
+        return Ok(None);
+    };
+    Ok(Some(Subject {
+        spec: Text::from_str(alloc, spec)?,
+        trace: Text::from_str(alloc, trace)?,
+        output: Text::from_str(alloc, output)?,
+        time,
+    }))
+}
+
+/// The question that the values in the matches ask.
+fn why_found(alloc: Global, matches: &ArgMatches<'_>) -> Result<Option<Why>, NoMemory>
+    ensures { IfOk result (λ why. (strict : Bool) → says (found_of matches.now) (codes "strict") strict
+        → why ≡ why_found (found_of matches.now) strict) }
+{
+    let Some(limits) = limits_found(matches) else {
+        return Ok(None);
+    };
+    let Some(subject) = subject_found(alloc, matches)? else {
+        return Ok(None);
+    };
+    Ok(Some(Why {
+        spec: subject.spec,
+        trace: subject.trace,
+        output: subject.output,
+        time: subject.time,
+        instants: limits.instants,
+        bytes: limits.bytes,
+        strict: matches.get_flag("strict"),
+    }))
+}
+
+/// The question that the matches ask.
+fn why_by(alloc: Global, matches: &ArgMatches<'_>) -> Result<Option<Why>, NoMemory>
+    ensures { IfOk result (λ why. (ps : List Piece) → Holds ps (found_of matches.now)
+        → why ≡ option_and_then why_of (if fits why_room ps then Some ps else None)) }
+{
+    if !fits(why_room(), matches) {
+        return Ok(None);
+    }
+    why_found(alloc, matches)
 }
 
 /// The specification that the matches name, where nothing else stands.
@@ -251,29 +388,41 @@ fn counted_by(matches: &ArgMatches<'_>) -> Option<(Workload, u64)>
     Some((kind, count))
 }
 
+/// An option of this name, whose value is a text.
+fn option_arg<'a>(alloc: Global, name: &'a str) -> Arg<'a>
+    ensures rule { rule_of result ≡ option_rule name.now }
+    ensures own { result.global ≡ false }
+{
+    Arg::new(alloc, name).long(name)
+}
+
+/// A flag of this name.
+fn flag_arg<'a>(alloc: Global, name: &'a str) -> Arg<'a>
+    ensures rule { rule_of result ≡ flag_rule name.now }
+    ensures own { result.global ≡ false }
+{
+    option_arg(alloc, name).action(ArgAction::SetTrue)
+}
+
 /// What reads the words of all commands: at most four plain words, of which the first is needed, and the options and flags of
 /// `run` and `exec`, without help. Which of them a command takes its room says.
 fn reader<'a>(alloc: Global) -> Result<clap::Command<'a>, AllocError>
     ensures { IfOk result (λ command. app_of command ≡ run_app) }
 {
     let first = Arg::new(alloc, "first").required(true);
-    let strict = Arg::new(alloc, "strict")
-        .long("strict")
-        .action(ArgAction::SetTrue);
-    let stats = Arg::new(alloc, "stats")
-        .long("stats")
-        .action(ArgAction::SetTrue);
     clap::Command::new(alloc, "run")
         .disable_help_flag(true)
         .arg(first)?
         .arg(Arg::new(alloc, "second"))?
         .arg(Arg::new(alloc, "third"))?
         .arg(Arg::new(alloc, "fourth"))?
-        .arg(Arg::new(alloc, "until").long("until"))?
-        .arg(Arg::new(alloc, "instants").long("instants"))?
-        .arg(Arg::new(alloc, "bytes").long("bytes"))?
-        .arg(strict)?
-        .arg(stats)
+        .arg(option_arg(alloc, "until"))?
+        .arg(option_arg(alloc, "instants"))?
+        .arg(option_arg(alloc, "bytes"))?
+        .arg(option_arg(alloc, "save"))?
+        .arg(option_arg(alloc, "resume"))?
+        .arg(flag_arg(alloc, "strict"))?
+        .arg(flag_arg(alloc, "stats"))
 }
 
 /// What `clap` matches in the words, of which the first is the command's name. `None` where it refuses them.
@@ -298,6 +447,7 @@ fn verb_of(word: &str) -> Option<Verb>
     match word {
         "run" => Some(Verb::Run),
         "exec" => Some(Verb::Exec),
+        "why" => Some(Verb::Why),
         "check" => Some(Verb::Check),
         "flat" => Some(Verb::Flat),
         "show" => Some(Verb::Show),
@@ -354,14 +504,9 @@ fn command_by(
     ensures { IfOk result (λ asked. (words : List (List ℕ)) → Matches words matches.now → asked ≡ asked_by verb words) }
 {
     match verb {
-        Verb::Run => match run_by(alloc, Source::Spec, matches)? {
-            Some(run) => Ok(Some(Command::Run(run))),
-            None => Ok(None),
-        },
-        Verb::Exec => match run_by(alloc, Source::Code, matches)? {
-            Some(run) => Ok(Some(Command::Run(run))),
-            None => Ok(None),
-        },
+        Verb::Run => Ok(run_by(alloc, Source::Spec, matches)?.map(Command::Run)),
+        Verb::Exec => Ok(run_by(alloc, Source::Code, matches)?.map(Command::Run)),
+        Verb::Why => Ok(why_by(alloc, matches)?.map(Command::Why)),
         Verb::Check => written_by(alloc, matches, Form::Check),
         Verb::Flat => written_by(alloc, matches, Form::Flat),
         Verb::Show => written_by(alloc, matches, Form::Show),
@@ -418,12 +563,14 @@ impl Words {
     /// What the words ask for; `None` exactly where they are not accepted.
     ///
     /// The first word is the name of a command. After it stand `SPEC` for `check`, `flat`, `show` and `code`, `SPEC NAME` for
-    /// `slice`, `SPEC FILE` for `compile`, `SPEC` and at most one `TRACE` for `run`, `FILE` and at most one `TRACE` for `exec`, and
-    /// `KIND N` for `gen` and `bench`, where `KIND` is `seen` or `copy`, none of them empty. For `run` and `exec` the options
-    /// `--until T`, `--instants N` and `--bytes B`, also written `--name=V`, and the flags `--strict` and
-    /// `--stats` may stand anywhere before a word `--`, each at most once. Other words than `-` that begin with `-` are
-    /// refused there, and all words after it are plain. Numbers are one digit or more: T at most `MOST_TIME`, N of `run` and `exec`
-    /// from 1 to `MOST_INSTANTS`, B from 1 to `MOST_TRACE_BYTES`, N of `gen` and `bench` from 1 to `MOST_LINES`.
+    /// `slice`, `SPEC FILE` for `compile`, `SPEC` and at most one `TRACE` for `run`, `FILE` and at most one `TRACE` for `exec`,
+    /// `SPEC TRACE NAME TIME` for `why`, and `KIND N` for `gen` and `bench`, where `KIND` is `seen` or `copy`, none of them empty.
+    /// For `run` and `exec` the options `--until T`, `--instants N`, `--bytes B`, `--save FILE` and `--resume FILE`, also written
+    /// `--name=V`, and the flags `--strict` and `--stats` may stand anywhere before a word `--`, each at most once, but not `--save`
+    /// with `--until`, nor `--resume` with `--instants`, `--bytes` or `--strict`, and no FILE is empty. Of these `why` takes
+    /// `--instants N`, `--bytes B` and `--strict`. Other words than `-` that begin with `-` are refused there, and all words after it
+    /// are plain. Numbers are one digit or more: T and TIME at most `MOST_TIME`, N of `run`, `exec` and `why` from 1 to
+    /// `MOST_INSTANTS`, B from 1 to `MOST_TRACE_BYTES`, N of `gen` and `bench` from 1 to `MOST_LINES`.
     #[tactic(auto, using(crate::proofs::Commands::told_when, crate::proofs::Commands::told_never))]
     pub fn command(&self, alloc: Global) -> Result<Option<Command>, NoMemory>
         ensures command { IfOk result (λ asked. asked ≡ command_of self.now) }

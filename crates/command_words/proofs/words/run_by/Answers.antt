@@ -1,8 +1,7 @@
-use Rattle.std.proofs.Common.{◌≡◌, ◌∙◌, ap, sym, nat_le, length}
+use Rattle.std.proofs.Common.{◌∙◌}
 use Rattle.std.proofs.lemmas.Result.{IfOk-weaker}
 use Rattle.clap.specs.Words.{found_of}
-use Rattle.command_words.specs.Words.{fits, run_room, strict_flag, stats_flag, uses}
-use Rattle.command_words.specs.declared.room.Room.{Room}
+use Rattle.command_words.specs.Words.{has_use, strict_flag, stats_flag}
 use Rattle.command_words.proofs.Commands.{run_held}
 use Rattle.command_words.proofs.words.run_by.Goals as goal
 
@@ -10,6 +9,6 @@ pub returns : goal.returns
 returns c =
     IfOk-weaker c.run_found.result _ _
     (λ run found. λ ps h.
-    let room : c.fits.result ≡ fits run_room ps = c.fits.ensures ps h ∙ ap (λ (r : Room). fits r ps) c.run_room.ensures in
-    found (nat_le 1 (length (uses strict_flag ps))) (nat_le 1 (length (uses stats_flag ps))) (h.flags strict_flag) (h.flags stats_flag) ∙ sym (run_held c.args.from ps (found_of c.args.matches.now) h (sym room ∙ c.if-not-fits.false)))
+    found (has_use strict_flag ps) (has_use stats_flag ps) (h.flags strict_flag) (h.flags stats_flag)
+    ∙ run_held c.args.from ps c.may_run.result (c.may_run.ensures ps h) (found_of c.args.matches.now) h c.if-not-may_run.false)
     c.run_found.ensures
