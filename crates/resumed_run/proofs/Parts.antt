@@ -55,7 +55,7 @@ goes_on m c fed piece text state code due next is = record {
 }
 
 -- ---- a run that goes on from a state
-options_are : (made o : Options) (st : RunState) → AreOptionsOf made st → AreOptionsOf o st → made.until ≡ o.until → made ≡ o
+pub options_are : (made o : Options) (st : RunState) → AreOptionsOf made st → AreOptionsOf o st → made.until ≡ o.until → made ≡ o
 options_are made o st first second until =
     let strict = sym first.strict ∙ second.strict in
     let instants = sym first.instants ∙ second.instants in

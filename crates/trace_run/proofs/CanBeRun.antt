@@ -1,7 +1,6 @@
 -- Programs that can be run.
 use Rattle.std.proofs.Common.{◌≡◌, ℕ, List, ap}
 use Rattle.compiled_meaning.specs.Compiled.{Compiles}
-use Rattle.flat_core.specs.System.{System}
 use Rattle.flat_core.specs.WellFormed.{IsWellFormed}
 use Rattle.register_code.specs.Code.{Code, IsCode}
 use Rattle.syntax_tree.specs.Tree as tree

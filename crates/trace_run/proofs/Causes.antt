@@ -1,9 +1,7 @@
 -- The causes of the endings of a run exclude each other.
-use Rattle.std.proofs.Common.{◌≡◌, ℕ, ◌<◌, take, length, slice_get, arith, Bool, true, false, List, Option, Some, None, is_some, refl, sym, ◌∙◌, ap, subst}
+use Rattle.std.proofs.Common.{◌≡◌, ℕ, take, Bool, true, false, List, Option, Some, None, is_some, refl, sym, ◌∙◌, ap}
 use Rattle.std.proofs.lemmas.Bool.{true≢false}
-use Rattle.std.specs.List.{Contains}
-use Rattle.std.specs.Prelude.{IsFalse}
-use Rattle.std.proofs.lemmas.Option.{slice_get_within}
+use Rattle.std.specs.Prelude.{◌&&◌, IsFalse}
 use Rattle.flat_core.specs.Case.{Streams}
 use Rattle.flat_core.specs.Ending.{EndsAtLimit, EndsInFault}
 use Rattle.flat_core.specs.Fault.{is_faulty}
@@ -12,10 +10,9 @@ use Rattle.flat_core.specs.Line.{Line, inputs_of}
 use Rattle.flat_core.specs.System.{System}
 use Rattle.flat_core.proofs.Alike.{named_faulty}
 use Rattle.flat_core.proofs.Members.{all_at}
-use Rattle.flat_meaning.proofs.OneText.{same_instants}
-use Rattle.compiled_meaning.specs.Meant.{FaultTimeIsMeant, QuietIsMeant, LimitIsMeant}
+use Rattle.compiled_meaning.specs.Meant.{FaultTimeIsMeant, LimitIsMeant}
+use Rattle.compiled_meaning.proofs.Excluding.{both, long, loud}
 use Rattle.lift_func.specs.declared.fault.FaultKind.{FaultKind}
-use Rattle.syntax_tree.specs.Tree as tree
 use Rattle.trace_monitor.specs.declared.ending.RunEnding.{RunEnding}
 use Rattle.trace_monitor.specs.declared.ending.RunEnding.TheVariants as run
 use Rattle.trace_monitor.specs.declared.options.Options.{Options}
@@ -23,30 +20,11 @@ use Rattle.trace_monitor.specs.Due.{bound_in, lines_in}
 use Rattle.trace_monitor.specs.Ending.{IsFaulted, IsLimited}
 use Rattle.trace_reader.specs.declared.fault.TraceFault.{TraceFault}
 use Rattle.trace_run.specs.Meant.{bound_meant, lines_meant}
-use Rattle.trace_run.specs.Means.{EndsAs, IsQuietAs, IsUnhindered, refused_as}
+use Rattle.trace_run.specs.Means.{EndsAs, EndsAt, IsQuietAs, IsUnhindered, refused_as}
 use Rattle.trace_run.specs.Program.{Program, coded, specified}
 
 pub nothing_some : {A : Type 0} (x : Option A) (a : A) → x ≡ None → x ≡ Some a → ⊥
 nothing_some x a none some = absurd (let e : false ≡ true = ap is_some (sym none ∙ some) in cc)
-
-module _ (items : List tree.Item) (lines : List Line) (bound limit : ℕ) where
-  pub loud : (t : ℕ) → QuietIsMeant items lines bound limit → FaultTimeIsMeant items lines bound limit t → ⊥
-  loud t quiet fault =
-      let same = same_instants items lines bound fault.instants quiet.instants fault.are quiet.are in
-      quiet.sound t (subst (λ (l : List ℕ). Contains (take limit l) t) same fault.within) fault.faulty
-
-  pub long : (t : ℕ) → QuietIsMeant items lines bound limit → LimitIsMeant items lines bound limit t → ⊥
-  long t quiet limited =
-      let same = same_instants items lines bound limited.instants quiet.instants limited.are quiet.are in
-      let there : slice_get quiet.instants limit ≡ Some t = subst (λ (l : List ℕ). slice_get l limit ≡ Some t) same limited.next in
-      let lt : limit < length quiet.instants = slice_get_within quiet.instants limit t there in
-      let few = quiet.few in
-      absurd (omega arith)
-
-  pub both : (t u : ℕ) → FaultTimeIsMeant items lines bound limit t → LimitIsMeant items lines bound limit u → ⊥
-  both t u fault limited =
-      let same = same_instants items lines bound fault.instants limited.instants fault.are limited.are in
-      limited.sound t (subst (λ (l : List ℕ). Contains (take limit l) t) same fault.within) fault.faulty
 
 -- ---- of streams that solve a system
 module _ (s : System) (lines : List Line) (z : Streams) (bound limit : ℕ) where
@@ -142,10 +120,20 @@ module _ (o : Options) (bytes : List ℕ) (end : Bool) where
   one_kind_said : (p : Program) (a b : Kind) → SaysAs p a → SaysAs p b → a ≡ b
   one_kind_said p = one_said (refused_as p o bytes end) (IsQuietAs p o bytes end) (Faults p) (Limits p) (loud_as p) (long_as p) (both_as p)
 
-  -- two endings that have their causes are of one kind
-  pub one_kind : (p : Program) (how other : RunEnding) → EndsAs p o bytes end how → EndsAs p o bytes end other → kind_of how ≡ kind_of other
-  one_kind p how other a b = one_kind_said p (kind_of how) (kind_of other) (said_as p how a) (said_as p other b)
+-- where the end of the trace is told or not
+module _ (o : Options) (bytes : List ℕ) where
+  said_at : (tells_end read : Bool) (p : Program) (how : RunEnding) → EndsAt p o bytes tells_end read how → SaysAs o bytes (tells_end && read) p (kind_of how)
+  said_at true read p how ends = said_as o bytes read p how ends
+  said_at false read p run.Done ends = (ends.1.accepted, ends.1.quiet)
+  said_at false read p (run.Trace fault) ends = said_as o bytes false p (run.Trace fault) ends
+  said_at false read p (run.Fault t kind place) ends = said_as o bytes false p (run.Fault t kind place) ends
+  said_at false read p (run.Limit n t) ends = said_as o bytes false p (run.Limit n t) ends
 
-  -- what nothing stands against ends as done
-  pub unhindered_done : (p : Program) → IsUnhindered p o bytes end → (how : RunEnding) → EndsAs p o bytes end how → how ≡ run.Done
-  unhindered_done p u how ends = done_alone how (one_kind_said p (kind_of how) done (said_as p how ends) (u.accepted, u.quiet))
+  module _ (tells_end read : Bool) (p : Program) where
+    -- two endings that have their causes are of one kind
+    pub one_kind : (how other : RunEnding) → EndsAt p o bytes tells_end read how → EndsAt p o bytes tells_end read other → kind_of how ≡ kind_of other
+    one_kind how other a b = one_kind_said o bytes (tells_end && read) p (kind_of how) (kind_of other) (said_at tells_end read p how a) (said_at tells_end read p other b)
+
+    -- what nothing stands against ends as done
+    pub unhindered_done : IsUnhindered p o bytes (tells_end && read) → (how : RunEnding) → EndsAt p o bytes tells_end read how → how ≡ run.Done
+    unhindered_done u how ends = done_alone how (one_kind_said o bytes (tells_end && read) p (kind_of how) done (said_at tells_end read p how ends) (u.accepted, u.quiet))

@@ -1,12 +1,17 @@
 pub mod Dues
 pub mod Watching
+pub mod Added
+pub mod Following
+pub mod Starting
 pub mod Writing
 pub mod Grown
 pub mod TypedLines
 pub mod Unseen
 pub mod CanBeRun
+pub mod OneCode
 pub mod Meaning
 pub mod Programs
+pub mod Begun
 pub mod Causes
 pub mod WholeTrace
 pub mod Counted

@@ -3,14 +3,17 @@ use Rattle.std.proofs.Common.{◌≡◌, ℕ, Bool, List, ◌∙◌, ap, sym, su
 use Rattle.lift_func.specs.declared.fault.FaultKind.{FaultKind}
 use Rattle.flat_core.specs.Case.{Streams}
 use Rattle.flat_core.specs.Ending.{EndsInFault}
-use Rattle.flat_core.specs.Line.{Line}
+use Rattle.flat_core.specs.Line.{Line, inputs_of}
 use Rattle.flat_core.specs.System.{System}
+use Rattle.flat_core.specs.Text.{due_text}
+use Rattle.flat_meaning.proofs.OneText.{one_text}
 use Rattle.compiled_meaning.specs.Compiled.{Compiles}
 use Rattle.spec_meaning.specs.Inputs.{inputs_alone}
 use Rattle.compiled_meaning.specs.inner.Laws.{SaysWhatIsMeant}
 use Rattle.compiled_meaning.specs.Meant.{FaultTimeIsMeant, IsFaultNamed, LimitIsMeant, QuietIsMeant}
 use Rattle.compiled_meaning.proofs.Inputs.{inputs_are_declared}
 use Rattle.compiled_meaning.proofs.Meaning.{compiled_says_what_is_meant}
+use Rattle.compiled_meaning.proofs.Readiness.{compiled_is_ready}
 use Rattle.spec_meaning.specs.Due.{IsDueText}
 use Rattle.syntax_tree.specs.Tree as tree
 use Rattle.trace_monitor.specs.declared.ending.RunEnding.{RunEnding}
@@ -24,6 +27,7 @@ use Rattle.trace_reader.specs.Reading.{Reading, reading}
 use Rattle.trace_reader.proofs.InputLemmas.{others_leave_reading}
 use Rattle.tsl_value.specs.declared.place.Place.{Place}
 use Rattle.trace_run.specs.Meant.{EndsAsMeant, IsDueAsMeant, IsQuietAsMeant, bound_meant, lines_meant, refused_meant}
+use Rattle.trace_run.proofs.Dues.{due_of}
 use Rattle.trace_run.proofs.TypedLines.{typed_read}
 
 -- for a source that is compiled to this system
@@ -60,6 +64,16 @@ module _ (source : List ℕ) (items : List tree.Item) (s : System) (o : Options)
         let (z, zs) = due.solved in
         to_meant (λ l b. IsDueText items l b o.instants text)
         (subst (λ (t : List ℕ). IsDueText items lines bound o.instants t) (sym (due.is z zs)) (says z zs).text)
+
+    -- and the text that is meant is due: one text is, by the system and by the meaning
+    pub due_by_meaning : (text : List ℕ) → IsDueAsMeant items o bytes ended text → IsDue s o bytes ended text
+    due_by_meaning text meant =
+        let ready = compiled_is_ready source items s c in
+        let (z, zs) = ready.exists (inputs_of lines) bound in
+        let due = due_of s o ready bytes ended z zs in
+        let told = due_text s lines z bound o.instants in
+        subst (λ (l : List ℕ). IsDue s o bytes ended l)
+        (one_text items (lines_meant items o bytes ended) (bound_meant items o bytes ended) o.instants told text (due_meant told due) meant) due
 
     pub quiet_meant : IsQuiet s o bytes ended → IsQuietAsMeant items o bytes ended
     quiet_meant quiet = let (z, zs) = quiet.solved in to_meant (λ l b. QuietIsMeant items l b o.instants) ((says z zs).quiet (quiet.each z zs))

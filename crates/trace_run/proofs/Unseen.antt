@@ -55,7 +55,7 @@ module _ (source : List ℕ) (items : List tree.Item) (s : System) (c : Compiles
       let few = before.few_outputs in
       omega arith
 
-  flat : IsFlat s
+  pub flat : IsFlat s
   flat = record {
     complete = fit.complete before.complete;
     few_equations = few_equations;

@@ -2,7 +2,7 @@
 use Rattle.std.proofs.Common.{◌≡◌, ℕ, zero, suc, ◌<◌, ◌≤◌, Bool, true, false, List, [], ◌∷◌, ◌++◌, Option, Some, None, take, slice_get, refl, sym, ◌∙◌, ap, subst, arith}
 use Rattle.std.proofs.lemmas.List.Elements.{Contains-append_left}
 use Rattle.std.specs.List.{AllByRecursion, Contains}
-use Rattle.std.specs.Prelude.{IsFalse}
+use Rattle.std.specs.Prelude.{◌&&◌, IsFalse}
 use Rattle.lift_func.specs.declared.fault.FaultKind.{FaultKind}
 use Rattle.flat_core.specs.inner.BoundLaws.{AreFrom, HappensAlike}
 use Rattle.flat_core.specs.Case.{Streams}
@@ -20,6 +20,7 @@ use Rattle.compiled_meaning.specs.Compiled.{Compiles}
 use Rattle.compiled_meaning.specs.inner.Laws.{SaysWhatIsMeant}
 use Rattle.compiled_meaning.specs.Meant.{QuietIsMeant}
 use Rattle.compiled_meaning.specs.inner.Ready.{IsReady}
+use Rattle.compiled_meaning.proofs.Excluding.{long, loud}
 use Rattle.compiled_meaning.proofs.Meaning.{compiled_says_what_is_meant}
 use Rattle.compiled_meaning.proofs.Readiness.{ready_of}
 use Rattle.flat_core.proofs.SameMeaning.{happens_alike}
@@ -37,7 +38,7 @@ use Rattle.trace_reader.proofs.LineLemmas.{reading_closed, reading_later}
 use Rattle.tsl_world.specs.Begins.{Begins}
 use Rattle.trace_run.specs.Means.{IsUnhindered}
 use Rattle.trace_run.specs.Program.{Program, coded, specified}
-use Rattle.trace_run.proofs.Causes.{long, loud, nothing_some}
+use Rattle.trace_run.proofs.Causes.{nothing_some}
 use Rattle.trace_run.proofs.CanBeRun.{CanBeRun}
 use Rattle.trace_run.proofs.Meaning.{of_meant, refused_alike, to_meant}
 use Rattle.trace_run.proofs.TypedLines.{typed_read}
@@ -88,7 +89,7 @@ none_by None never = refl
 none_by (Some a) never = absurd (never a refl)
 
 -- a beginning of a whole trace, by a system
-module _ (s : System) (o : Options) (bytes more : List ℕ) where
+module _ (s : System) (o : Options) (bytes more : List ℕ) (e : Bool) where
   abbrev whole : List ℕ
   whole = bytes ++ more
 
@@ -96,29 +97,29 @@ module _ (s : System) (o : Options) (bytes more : List ℕ) where
   low = bound_in s o bytes false
 
   abbrev high : ℕ
-  high = bound_in s o whole true
+  high = bound_in s o whole e
 
   abbrev ls : List Line
   ls = lines_in s o bytes false
 
   abbrev ms : List Line
-  ms = lines_in s o whole true
+  ms = lines_in s o whole e
 
   le : low ≤ high
-  le = reading_closed s o.strict o.bytes o.until bytes more true
+  le = reading_closed s o.strict o.bytes o.until bytes more e
 
   stay : LinesBegin ls ms
-  stay = reading_begins s o.strict o.bytes bytes more true
+  stay = reading_begins s o.strict o.bytes bytes more e
 
   later : AreFrom low stay.rest
-  later = reading_later s o.strict o.bytes bytes more true stay.rest stay.is
+  later = reading_later s o.strict o.bytes bytes more e stay.rest stay.is
 
-  accepted_first : refused_in s o whole true ≡ None → refused_in s o bytes false ≡ None
+  accepted_first : refused_in s o whole e ≡ None → refused_in s o bytes false ≡ None
   accepted_first none =
-      none_by (refused_in s o bytes false) (λ f is. nothing_some (refused_in s o whole true) f none
-      (ap (λ (r : Reading). r.refused) (reading_refused s o.strict o.bytes bytes more true f is) ∙ is))
+      none_by (refused_in s o bytes false) (λ f is. nothing_some (refused_in s o whole e) f none
+      (ap (λ (r : Reading). r.refused) (reading_refused s o.strict o.bytes bytes more e f is) ∙ is))
 
-  module _ (z : Streams) (zs : SolvesClosed s o whole true z) where
+  module _ (z : Streams) (zs : SolvesClosed s o whole e z) where
     first : SolvesClosed s o bytes false z
     first = ((leaves_earlier s low ls stay.rest later).solves_same z).1 (subst (λ (l : List Line). Solves s (inputs_of l) low z) stay.is (solves_less s (inputs_of ms) low high z le zs))
 
@@ -129,38 +130,38 @@ module _ (s : System) (o : Options) (bytes more : List ℕ) where
     bound_first ends = ends_before s z ls ms low high o.instants le alike ends
 
 -- for a source that is compiled to this system
-module _ (source : List ℕ) (items : List tree.Item) (s : System) (o : Options) (c : Compiles source items s) (bytes more : List ℕ) where
-  module _ (z : Streams) (zs : SolvesClosed s o (bytes ++ more) true z) where
-    all_said : SaysWhatIsMeant items s (lines_in s o (bytes ++ more) true) (bound_in s o (bytes ++ more) true) o.instants z
-    all_said = compiled_says_what_is_meant source items s (lines_in s o (bytes ++ more) true) (bound_in s o (bytes ++ more) true) o.instants z c (typed_read s o (bytes ++ more) true) zs
+module _ (source : List ℕ) (items : List tree.Item) (s : System) (o : Options) (c : Compiles source items s) (bytes more : List ℕ) (e : Bool) where
+  module _ (z : Streams) (zs : SolvesClosed s o (bytes ++ more) e z) where
+    all_said : SaysWhatIsMeant items s (lines_in s o (bytes ++ more) e) (bound_in s o (bytes ++ more) e) o.instants z
+    all_said = compiled_says_what_is_meant source items s (lines_in s o (bytes ++ more) e) (bound_in s o (bytes ++ more) e) o.instants z c (typed_read s o (bytes ++ more) e) zs
 
     first_said : SaysWhatIsMeant items s (lines_in s o bytes false) (bound_in s o bytes false) o.instants z
-    first_said = compiled_says_what_is_meant source items s (lines_in s o bytes false) (bound_in s o bytes false) o.instants z c (typed_read s o bytes false) (first s o bytes more z zs)
+    first_said = compiled_says_what_is_meant source items s (lines_in s o bytes false) (bound_in s o bytes false) o.instants z c (typed_read s o bytes false) (first s o bytes more e z zs)
 
-    quiet_first : QuietIsMeant items (lines_in s o (bytes ++ more) true) (bound_in s o (bytes ++ more) true) o.instants → QuietIsMeant items (lines_in s o bytes false) (bound_in s o bytes false) o.instants
-    quiet_first quiet = first_said.quiet (bound_first s o bytes more z zs record {
-      no_fault = λ t i kind ends. loud items (lines_in s o (bytes ++ more) true) (bound_in s o (bytes ++ more) true) o.instants t quiet (all_said.fault t i kind ends);
-      no_limit = λ t ends. long items (lines_in s o (bytes ++ more) true) (bound_in s o (bytes ++ more) true) o.instants t quiet (all_said.limited t ends);
+    quiet_first : QuietIsMeant items (lines_in s o (bytes ++ more) e) (bound_in s o (bytes ++ more) e) o.instants → QuietIsMeant items (lines_in s o bytes false) (bound_in s o bytes false) o.instants
+    quiet_first quiet = first_said.quiet (bound_first s o bytes more e z zs record {
+      no_fault = λ t i kind ends. loud items (lines_in s o (bytes ++ more) e) (bound_in s o (bytes ++ more) e) o.instants t quiet (all_said.fault t i kind ends);
+      no_limit = λ t ends. long items (lines_in s o (bytes ++ more) e) (bound_in s o (bytes ++ more) e) o.instants t quiet (all_said.limited t ends);
     })
 
-  specified_first : IsUnhindered (specified items s) o (bytes ++ more) true → IsUnhindered (specified items s) o bytes false
-  specified_first u = let (z, zs) = (fit source items s c).solved (inputs_of (lines_in s o (bytes ++ more) true)) (bound_in s o (bytes ++ more) true) in record {
+  specified_first : IsUnhindered (specified items s) o (bytes ++ more) e → IsUnhindered (specified items s) o bytes false
+  specified_first u = let (z, zs) = (fit source items s c).solved (inputs_of (lines_in s o (bytes ++ more) e)) (bound_in s o (bytes ++ more) e) in record {
     accepted =
-        sym (refused_alike source items s o c bytes false) ∙ accepted_first s o bytes more (refused_alike source items s o c (bytes ++ more) true ∙ u.accepted);
+        sym (refused_alike source items s o c bytes false) ∙ accepted_first s o bytes more e (refused_alike source items s o c (bytes ++ more) e ∙ u.accepted);
     quiet = to_meant source items s o c bytes false (λ l b. QuietIsMeant items l b o.instants)
-        (quiet_first z zs (of_meant source items s o c (bytes ++ more) true (λ l b. QuietIsMeant items l b o.instants) u.quiet));
+        (quiet_first z zs (of_meant source items s o c (bytes ++ more) e (λ l b. QuietIsMeant items l b o.instants) u.quiet));
   }
 
 -- for code whose system can be run
-module _ (c : Code) (ready : IsReady c.system) (o : Options) (bytes more : List ℕ) where
-  coded_first : IsUnhindered (coded c) o (bytes ++ more) true → IsUnhindered (coded c) o bytes false
+module _ (c : Code) (ready : IsReady c.system) (o : Options) (bytes more : List ℕ) (e : Bool) where
+  coded_first : IsUnhindered (coded c) o (bytes ++ more) e → IsUnhindered (coded c) o bytes false
   coded_first u =
       let s = c.system in
       let (z, zs) = u.quiet.solved in
-      let earlier : EndsAtBound s (lines_in s o bytes false) z (bound_in s o bytes false) o.instants = bound_first s o bytes more z zs (u.quiet.each z zs) in
-      let solves = first s o bytes more z zs in
+      let earlier : EndsAtBound s (lines_in s o bytes false) z (bound_in s o bytes false) o.instants = bound_first s o bytes more e z zs (u.quiet.each z zs) in
+      let solves = first s o bytes more e z zs in
       record {
-        accepted = accepted_first s o bytes more u.accepted;
+        accepted = accepted_first s o bytes more e u.accepted;
         quiet = record {
           solved = (z, solves);
           each = λ w ws.
@@ -170,15 +171,16 @@ module _ (c : Code) (ready : IsReady c.system) (o : Options) (bytes more : List 
         };
       }
 
--- nothing in a whole trace, so nothing in what was taken of it
+-- nothing in a whole trace, whose end is told or not, so nothing in what was taken of it
 module _ (p : Program) (can : CanBeRun p) (o : Options) where
-  unhindered_first : (bytes more : List ℕ) → IsUnhindered p o (bytes ++ more) true → IsUnhindered p o bytes false
-  unhindered_first bytes more u = first_of p can u
+  unhindered_first : (bytes more : List ℕ) (e : Bool) → IsUnhindered p o (bytes ++ more) e → IsUnhindered p o bytes false
+  unhindered_first bytes more e u = first_of p can u
     where
-      first_of : (q : Program) → CanBeRun q → IsUnhindered q o (bytes ++ more) true → IsUnhindered q o bytes false
-      first_of (specified items s) can u = specified_first can.0 items s o can.1 bytes more u
-      first_of (coded c) can u = coded_first c (ready_of c.system can.is_code.is_flat can.well_formed) o bytes more u
+      first_of : (q : Program) → CanBeRun q → IsUnhindered q o (bytes ++ more) e → IsUnhindered q o bytes false
+      first_of (specified items s) can u = specified_first can.0 items s o can.1 bytes more e u
+      first_of (coded c) can u = coded_first c (ready_of c.system can.is_code.is_flat can.well_formed) o bytes more e u
 
-  pub unhindered_taken : (bytes all : List ℕ) (end : Bool) → Begins bytes all → (end ≡ true → all ≡ bytes) → IsUnhindered p o all true → IsUnhindered p o bytes end
-  unhindered_taken bytes all true begins ends u = subst (λ (l : List ℕ). IsUnhindered p o l true) (ends refl) u
-  unhindered_taken bytes all false begins ends u = unhindered_first bytes begins.rest (subst (λ (l : List ℕ). IsUnhindered p o l true) begins.is u)
+  pub unhindered_taken : (bytes all : List ℕ) (tells_end end : Bool) → Begins bytes all → (end ≡ true → all ≡ bytes) → IsUnhindered p o all tells_end → IsUnhindered p o bytes (tells_end && end)
+  unhindered_taken bytes all true true begins ends u = subst (λ (l : List ℕ). IsUnhindered p o l true) (ends refl) u
+  unhindered_taken bytes all true false begins ends u = unhindered_first bytes begins.rest true (subst (λ (l : List ℕ). IsUnhindered p o l true) begins.is u)
+  unhindered_taken bytes all false end begins ends u = unhindered_first bytes begins.rest false (subst (λ (l : List ℕ). IsUnhindered p o l false) begins.is u)

@@ -1,4 +1,6 @@
 pub mod Limited
+pub mod Before
+pub mod Starts
 pub mod Program
 pub mod Statistics
 pub mod Effects

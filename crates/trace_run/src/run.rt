@@ -1,40 +1,92 @@
 // A run over a trace, by the code of a system.
 
-ghost use Rattle.std.specs.Prelude.{◌≡◌, ◌<◌, ◌≤◌, false, length, IfOk, OnOk, IsErrOf};
+ghost use Rattle.std.specs.Prelude.{◌≡◌, ◌<◌, ◌≤◌, false, true, length, IfOk, OnOk, IsErrOf};
 ghost use Rattle.compiled_meaning.specs.inner.Ready.{IsReady};
+ghost use Rattle.trace_monitor.specs.inner.Snapshot.{code_of};
+ghost use Rattle.trace_monitor.specs.inner.Waits.{Waits};
 ghost use Rattle.trace_reader.specs.declared.limits.TheConstants.{MOST_PIECE_BYTES};
-ghost use Rattle.tsl_world.specs.Standing.{is_open};
+ghost use Rattle.tsl_value.specs.declared.limits.TheConstants.{MOST_INSTANTS};
+ghost use Rattle.tsl_world.specs.Standing.{is_open, with_slot};
 ghost use Rattle.tsl_world.specs.Runs.{Grows};
 ghost use Rattle.tsl_world.specs.World.{RoseBy};
-ghost use Rattle.trace_run.specs.Effects.{CodeEnds, RunsSystem};
-ghost use Rattle.trace_run.specs.Limited.{AreLimited};
+ghost use Rattle.trace_run.specs.Effects.{CodeEnds, IsMonitorOf, IsStateOf, LeavesSome, RunsCode};
+ghost use Rattle.trace_run.specs.Starts.{CanStart, most_bytes};
 
-use crate::broken::Broken;
+use crate::start::Start;
 use crate::statistics::statistics_of;
 use crate::watch::watch;
 use register_code::code::Code;
+use resumed_run::save::saved;
 use std::alloc::Global;
 use trace_monitor::ending::RunEnding;
 use trace_monitor::monitor::TraceMonitor;
-use trace_monitor::options::Options;
 use tsl_value::bytes::Bytes;
-use tsl_world::{Slot, World};
+use tsl_value::memory::NoMemory;
+use tsl_world::{Broken, Slot, World};
 
-/// How a run over a trace ended, and what is told of its updates.
+/// How a run over a trace ended, what is told of its updates, and what is left of it.
 #[derive(Drop)]
 pub struct Ran {
     pub ending: RunEnding,
     /// The statistics, where they are asked for. Else no bytes.
     pub statistics: Bytes,
+    /// The bytes of the state, where they are asked for and all was done.
+    pub state: Option<Bytes>,
 }
 
-/// Opens the trace of this name and monitors it by the code of a system, with statistics or without.
+/// How many bytes of its trace a run takes at most.
+fn limit_of(start: &Start) -> u64
+    ensures { result ≡ most_bytes start.now }
+{
+    match start {
+        Start::Anew(options) => options.bytes,
+        Start::Resumed { state, .. } => state.bytes_limit,
+    }
+}
+
+/// The monitor of a run that begins so.
+fn monitor_of<'c>(alloc: Global, code: &'c Code, start: Start) -> Result<TraceMonitor<'c>, NoMemory>
+    requires ready { IsReady code.now.system }
+    requires starts { CanStart code.now start }
+    ensures { IfOk result (IsMonitorOf code.now start) }
+{
+    match start {
+        Start::Anew(options) => TraceMonitor::new(alloc, code, options),
+        Start::Resumed { until, state } => TraceMonitor::from_state(alloc, code, until, state),
+    }
+}
+
+/// The bytes of the state of a run that ended so, where they are asked for.
+fn state_of(
+    alloc: Global,
+    code: &Code,
+    monitor: &TraceMonitor<'_>,
+    saves: bool,
+    ending: &RunEnding,
+) -> Result<Option<Bytes>, NoMemory>
+    requires waits { saves ≡ true → ending.now ≡ RunEnding.Done → Waits monitor.now }
+    requires few { monitor.now.options.instants ≤ MOST_INSTANTS }
+    requires code { code_of monitor.now ≡ code.now }
+    ensures { IfOk result (λ left. LeavesSome (IsStateOf code.now monitor.now) saves ending.now left) }
+{
+    if !saves {
+        return Ok(None);
+    }
+    match ending {
+        RunEnding::Done => Ok(Some(saved(alloc, code, monitor)?)),
+        _ => Ok(None),
+    }
+}
+
+/// Opens the trace of this name and monitors it by the code of a system, with statistics or without. Where the run saves its state, the
+/// end of the trace is not told: the trace goes on in a later run.
 pub fn run_code<W: World>(
     alloc: Global,
     world: &mut W,
     code: &Code,
     trace: &str,
-    options: Options,
+    start: Start,
+    saves: bool,
     with_statistics: bool,
     buf: &mut [u8],
 ) -> Result<Ran, Broken>
@@ -42,18 +94,25 @@ pub fn run_code<W: World>(
     requires short { length buf.old ≤ MOST_PIECE_BYTES }
     requires stands { is_open (W.standing world.old) Slot.Trace ≡ false }
     requires ready { IsReady code.now.system }
-    requires limited { AreLimited options }
+    requires starts { CanStart code.now start }
     ensures ok { OnOk result (W.faults world.new ≡ W.faults world.old) }
     ensures outside { IsErrOf result Broken.Outside → RoseBy 1 (W.faults world.old) (W.faults world.new) }
     ensures memory { IsErrOf result Broken.Memory → W.faults world.new ≡ W.faults world.old }
     ensures heard { W.unheard world.new ≡ W.unheard world.old }
-    ensures calls { Grows W.told W.journal world.old world.new (RunsSystem trace.now code.now.system options) }
+    ensures standing { OnOk result (W.standing world.new ≡ with_slot (W.standing world.old) Slot.Trace) }
+    ensures calls { Grows W.told W.journal world.old world.new (RunsCode trace.now code.now start saves) }
     ensures ending { IfOk result (λ ran. Grows W.told W.journal world.old world.new
-        (CodeEnds trace.now code.now options with_statistics ran)) }
+        (CodeEnds trace.now code.now start saves with_statistics ran)) }
 {
-    let mut monitor = TraceMonitor::new(alloc, code, options)?;
+    let limit = limit_of(&start);
+    let mut monitor = monitor_of(alloc, code, start)?;
     world.open(Slot::Trace, trace)?;
-    let ending = watch(alloc, world, &mut monitor, options.bytes, buf)?;
+    let ending = watch(alloc, world, &mut monitor, limit, !saves, buf)?;
+    let state = state_of(alloc, code, &monitor, saves, &ending)?;
     let statistics = statistics_of(alloc, code.flat(), &monitor, with_statistics)?;
-    Ok(Ran { ending, statistics })
+    Ok(Ran {
+        ending,
+        statistics,
+        state,
+    })
 }

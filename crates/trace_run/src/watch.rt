@@ -1,54 +1,66 @@
 // The loop over the trace.
 
-ghost use Rattle.std.specs.Prelude.{◌≡◌, ◌<◌, ◌≤◌, [], true, length, IfOk, OnOk, IsErrOf};
+ghost use Rattle.std.specs.Prelude.{◌≡◌, ◌<◌, ◌≤◌, false, true, length, IfOk, OnOk, IsErrOf};
 ghost use Rattle.compiled_meaning.specs.inner.Ready.{IsReady};
-ghost use Rattle.trace_monitor.specs.inner.Kept.{Kept};
+ghost use Rattle.trace_monitor.specs.inner.Waits.{Waits};
 ghost use Rattle.tsl_world.specs.Standing.{is_open};
 ghost use Rattle.tsl_world.specs.World.{RoseBy};
 ghost use Rattle.tsl_world.specs.Runs.{Runs};
-ghost use Rattle.trace_run.specs.Effects.{Watched, WatchEnds};
+ghost use Rattle.trace_run.specs.Effects.{HasWatched, KeepsAll, StandsAfter, Watched};
 ghost use Rattle.trace_reader.specs.declared.limits.TheConstants.{MOST_PIECE_BYTES};
 ghost use Rattle.tsl_value.specs.declared.limits.TheConstants.{MOST_TRACE_BYTES};
 
-use crate::broken::Broken;
 use crate::write::write_all;
 use std::alloc::Global;
 use trace_monitor::ending::RunEnding;
 use trace_monitor::monitor::TraceMonitor;
 use tsl_value::bytes::Bytes;
-use tsl_world::{Channel, Slot, World};
+use tsl_world::{Broken, Channel, Slot, World};
 
 /// Reads the trace until the run ends, and writes what is due before each further read. `limit` is how many bytes of the trace the
-/// monitor takes at most.
+/// monitor takes at most. Where `tells_end` is false, the end of the trace is not told to the monitor, which may then be asked for its
+/// state.
 pub fn watch<W: World>(
     alloc: Global,
     world: &mut W,
     monitor: &mut TraceMonitor<'_>,
     limit: u64,
+    tells_end: bool,
     buf: &mut [u8],
 ) -> Result<RunEnding, Broken>
     requires room { 0 < length buf.old }
     requires short { length buf.old ≤ MOST_PIECE_BYTES }
     requires stands { is_open (W.standing world.old) Slot.Trace ≡ true }
     requires ready { IsReady monitor.old.system }
-    requires kept { Kept monitor.old [] }
+    requires waits { Waits monitor.old }
     requires limit { limit ≡ monitor.old.options.bytes }
     requires few { limit ≤ MOST_TRACE_BYTES }
     ensures ok { OnOk result (W.faults world.new ≡ W.faults world.old) }
     ensures outside { IsErrOf result Broken.Outside → RoseBy 1 (W.faults world.old) (W.faults world.new) }
     ensures memory { IsErrOf result Broken.Memory → W.faults world.new ≡ W.faults world.old }
     ensures heard { W.unheard world.new ≡ W.unheard world.old }
-    ensures calls { Runs W.told W.journal W.standing world.old world.new (Watched monitor.old.system monitor.old.options) }
-    ensures engine { OnOk result (monitor.new.engine.system ≡ monitor.old.system) }
+    ensures calls { Runs W.told W.journal W.standing world.old world.new
+        (Watched monitor.old.system (StandsAfter monitor.old) tells_end monitor.old.reader.taken monitor.old.options.bytes) }
+    ensures system { OnOk result (monitor.new.system ≡ monitor.old.system) }
+    ensures options { OnOk result (monitor.new.options ≡ monitor.old.options) }
+    ensures engine { OnOk result (monitor.new.engine.system ≡ monitor.old.engine.system) }
     ensures set { OnOk result (monitor.new.engine.in_place ≡ monitor.old.engine.in_place) }
     ensures order { OnOk result (monitor.new.engine.order ≡ monitor.old.engine.order) }
     ensures ending { IfOk result (λ ending. Runs W.told W.journal W.standing world.old world.new
-        (WatchEnds monitor.old.system monitor.old.options monitor.new.engine ending)) }
+        (HasWatched monitor.old.system (StandsAfter monitor.old) tells_end monitor.new.engine ending)) }
+    ensures waits { IfOk result (λ ending. tells_end ≡ false → ending ≡ RunEnding.Done → Waits monitor.new) }
+    ensures kept { IfOk result (λ ending. Runs W.told W.journal W.standing world.old world.new
+        (KeepsAll monitor.old monitor.new tells_end ending)) }
 {
     let mut text = Bytes::new(alloc);
     // Each round but the last one takes a byte at least, and no run goes on after more than the limit.
     for _ in 0..limit + 1 {
         let count = world.read(Slot::Trace, buf)?;
+        if count == 0 && !tells_end {
+            // What it answers is not needed: its contract says what the engine has counted of the bytes so far.
+            monitor.instants();
+            return Ok(RunEnding::Done);
+        }
         let next = monitor.advance(&buf[..count], &mut text)?;
         write_all(world, Channel::Out, text.as_slice())?;
         if let Some(ending) = next {
