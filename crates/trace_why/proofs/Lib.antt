@@ -1,0 +1,10 @@
+pub mod Bounds
+pub mod Calm
+pub mod Courses
+pub mod Gathering
+pub mod Answering
+pub mod Concluding
+pub mod Advancing
+pub mod OneAnswer
+pub mod Meaning
+pub mod OneKind

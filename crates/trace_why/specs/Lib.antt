@@ -1,0 +1,5 @@
+pub mod Text
+pub mod Ending
+pub mod Answer
+pub mod Meant
+pub mod inner

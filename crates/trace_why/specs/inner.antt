@@ -1,0 +1,5 @@
+pub mod Lines
+pub mod Course
+pub mod State
+pub mod Kept
+pub mod Laws
