@@ -5,9 +5,10 @@ mod long;
 mod rows;
 mod specs;
 
-use crate::tests::specs::PREVIOUS;
+use crate::tests::specs::{PREVIOUS, SEEN};
 use command_words::words::Words;
 use memory_files::end::{has_ended, prints, refusal};
+use memory_files::parts::parts_end;
 use memory_files::program::{Program, ends, run, run_files};
 use std::alloc::Global;
 use std::test::Fail;
@@ -60,5 +61,25 @@ fn a_named_trace_is_closed_up_to_a_time(rt: HostRuntime) -> Result<(), Fail> {
     let words = &["run", "s.tsl", "t", "--until=25"];
     let left = run_files(&Tessla, rt.alloc(), words, spec, "t", b"", 64, &[])?;
     assert!(rt; has_ended(&left, prints("10: p = ()\n20: p = ()\n")));
+    Ok(())
+}
+
+#[test]
+fn a_run_is_saved_and_goes_on(rt: HostRuntime) -> Result<(), Fail> {
+    let parts = ("1: i = 5\n2: i = 7\n3: i", " = 5\n");
+    let ends = (
+        prints("1: s = false\n"),
+        prints("2: s = false\n3: s = true\n"),
+    );
+    assert!(rt; parts_end(&Tessla, rt.alloc(), SEEN, parts, ends)?);
+    Ok(())
+}
+
+#[test]
+fn a_state_of_nothing_has_249_bytes(rt: HostRuntime) -> Result<(), Fail> {
+    let words = &["run", "s.tsl", "--save", "state"];
+    let left = run(&Tessla, rt.alloc(), words, SEEN, "", 64)?;
+    assert!(rt; has_ended(&left, prints("")));
+    assert!(rt; left.world.state().len() == 249);
     Ok(())
 }

@@ -7,10 +7,9 @@ use std::io::ErrorKind;
 use std::process::ExitCode;
 use tessla_cli::tell::tell_broken;
 use tessla_cli::top::tessla;
-use trace_run::broken::Broken;
 use tsl_value::memory::NoMemory;
 use tsl_value::text::Text;
-use tsl_world::RealWorld;
+use tsl_world::{Broken, RealWorld};
 
 /// The words after the program's name. Where one is no text there are none, and so they are not accepted.
 fn words_after(rt: &HostRuntime) -> Result<Words, NoMemory> {

@@ -11,9 +11,12 @@ use Rattle.command_words.specs.declared.command.Form.TheVariants as form
 use Rattle.command_words.specs.declared.command.Origin.{Origin}
 use Rattle.command_words.specs.declared.command.Origin.TheVariants as origin
 use Rattle.command_words.specs.declared.command.Run.{Run}
+use Rattle.command_words.specs.declared.command.Why.{Why}
 use Rattle.command_words.specs.declared.command.Workload.{Workload}
 use Rattle.flat_core.specs.System.{System}
 use Rattle.lift_func.specs.declared.fault.FaultKind.{FaultKind}
+use Rattle.slice_text.specs.Text.{HasOutput}
+use Rattle.state_snapshot.specs.declared.fault.StateFault.{StateFault}
 use Rattle.tsl_value.specs.declared.place.Place.{Place}
 use Rattle.tsl_world.specs.declared.outside.Channel.TheVariants.{Out}
 use Rattle.tsl_world.specs.declared.outside.Did.{Did}
@@ -35,20 +38,26 @@ use Rattle.trace_reader.specs.declared.fault.TraceFault.{TraceFault}
 use Rattle.tessla_cli.specs.declared.ending.Ending.{Ending}
 use Rattle.tessla_cli.specs.declared.ending.Ending.TheVariants as ending
 use Rattle.tessla_cli.specs.Alone.{BenchStops, IsTallyText}
-use Rattle.tessla_cli.specs.Asked.{options_of, origin_file}
-use Rattle.tessla_cli.specs.Causes.{BenchCause, Cause, Finishes, OfTrace, Refuses, RunCause, WriteCause, Stands}
+use Rattle.tessla_cli.specs.Asked.{origin_file, tells_end}
+use Rattle.tessla_cli.specs.Causes.{BenchCause, Cause, Finishes, OfTrace, Refuses, RefusesState, RunCause, StateCause, WhyCause, WriteCause, Stands}
 use Rattle.tessla_cli.specs.Endings.{OfEnding, ending_of}
+use Rattle.tessla_cli.specs.Explained.{OfAnswer, answer_text, answered}
 use Rattle.tessla_cli.specs.Failures.{Failures}
-use Rattle.tessla_cli.specs.Headline.{OfRun, OfSource}
+use Rattle.tessla_cli.specs.Finished.{RunFinishes}
 use Rattle.trace_run.proofs.Causes.{Kind, kind_of, one_kind, done as all_done, refused as line_refused, faulted as has_faulted, limited as is_limited}
-use Rattle.trace_run.specs.Means.{EndsAs, WatchEndsAs}
+use Rattle.trace_run.specs.Before.{Before}
+use Rattle.trace_run.specs.Means.{EndsAt, WatchEndsAs, all_of}
 use Rattle.trace_run.specs.Program.{Program}
 use Rattle.tessla_cli.specs.Messages.{status_of}
 use Rattle.tessla_cli.specs.Printed.{AllowsForm, HasText, RefusesForm}
 use Rattle.tessla_cli.specs.Outcome.{Concludes, Outcome, IsExact}
 use Rattle.tessla_cli.specs.Outcome.Outcome.{told, outside, memory}
-use Rattle.tessla_cli.proofs.Loading.{of_run_weaker, one_program, refusal_is, runs_unrefused}
-use Rattle.tessla_cli.proofs.Told.{stops_not_words}
+use Rattle.tessla_cli.specs.Running.{HasState, IsBefore, OfSource}
+use Rattle.tessla_cli.specs.Stages.{at_program, at_state, at_words, at_work, stage_of}
+use Rattle.tessla_cli.proofs.Loading.{one_program, refusal_is, runs_unrefused}
+use Rattle.tessla_cli.proofs.Questions.{of_answer_weaker, one_status}
+use Rattle.tessla_cli.proofs.Refused.{run_at_work}
+use Rattle.tessla_cli.proofs.Since.{left_can_go_on, state_unrefused}
 
 -- the status of endings of a kind
 abbrev status_at : Kind → ℕ
@@ -63,8 +72,9 @@ status_by_kind (run.Trace fault) = refl
 status_by_kind (run.Fault t k place) = refl
 status_by_kind (run.Limit n t) = refl
 
-same_status : (o : Options) (bytes : List ℕ) (end : Bool) (p : Program) (how other : RunEnding) → EndsAs p o bytes end how → EndsAs p o bytes end other → status_of (ending_of how) ≡ status_of (ending_of other)
-same_status o bytes end p how other a b = status_by_kind how ∙ ap status_at (one_kind o bytes end p how other a b) ∙ sym (status_by_kind other)
+same_status : (o : Options) (bytes : List ℕ) (tells_end read : Bool) (p : Program) (how other : RunEnding) → EndsAt p o bytes tells_end read how → EndsAt p o bytes tells_end read other
+    → status_of (ending_of how) ≡ status_of (ending_of other)
+same_status o bytes tells_end read p how other a b = status_by_kind how ∙ ap status_at (one_kind o bytes tells_end read p how other a b) ∙ sym (status_by_kind other)
 
 -- endings of one kind have one status
 kind_status : (how other : RunEnding) → AreOfOneKind how other → status_of (ending_of how) ≡ status_of (ending_of other)
@@ -107,8 +117,10 @@ bench_cases kind n ending.Words a = inr a
 bench_cases kind n (ending.Spec fault) a = inr a
 bench_cases kind n (ending.Code fault) a = inr a
 bench_cases kind n (ending.NoOutput name) a = inr a
+bench_cases kind n (ending.State fault) a = inr a
 bench_cases kind n (ending.Trace fault) a = inr a
 bench_cases kind n (ending.Fault t k p) a = inr a
+bench_cases kind n (ending.NoEvent name t) a = inr a
 bench_cases kind n (ending.Limit m t) a = inr a
 
 bench_causes : (kind : Workload) (n : ℕ) (by other : Ending) → BenchCause kind n by → BenchCause kind n other → status_of by ≡ status_of other
@@ -176,8 +188,10 @@ module _ (x : Seen) where
     write_cases ending.Words a = inr (inr a)
     write_cases (ending.Code fault) a = inr (inr a)
     write_cases (ending.NoOutput name) a = inr (inr a)
+    write_cases (ending.State fault) a = inr (inr a)
     write_cases (ending.Trace fault) a = inr (inr a)
     write_cases (ending.Fault t k p) a = inr (inr a)
+    write_cases (ending.NoEvent name t) a = inr (inr a)
     write_cases (ending.Limit n t) a = inr (inr a)
 
     -- of the same system
@@ -209,16 +223,25 @@ module _ (x : Seen) where
     abbrev RefusedSo : Ending → Type 0
     RefusedSo by = Refuses r.origin (x.taken (origin_file r.origin).0) by
 
-    -- a run ends since the file of what runs is refused, or by a cause in the trace
-    pub run_cases : (by : Ending) → RunCause r x by → RefusedSo by ⊎ OfTrace r x by
+    abbrev StateRefusedSo : Ending → Type 0
+    StateRefusedSo by = (fault : StateFault) × (by ≡ ending.State fault) × StateCause r x fault
+
+    -- a run ends since the file of what runs is refused, or the state, or by a cause in the trace
+    run_cases : (by : Ending) → RunCause r x by → RefusedSo by ⊎ StateRefusedSo by ⊎ OfTrace r x by
     run_cases (ending.Spec fault) a = inl a
     run_cases (ending.Code fault) a = inl a
-    run_cases ending.Done a = inr a
-    run_cases ending.Words a = inr a
-    run_cases (ending.NoOutput name) a = inr a
-    run_cases (ending.Trace f) a = inr a
-    run_cases (ending.Fault t k p) a = inr a
-    run_cases (ending.Limit n t) a = inr a
+    run_cases (ending.State fault) a = inr (inl (fault, refl, a))
+    run_cases ending.Done a = inr (inr a)
+    run_cases ending.Words a = inr (inr a)
+    run_cases (ending.NoOutput name) a = inr (inr a)
+    run_cases (ending.Trace f) a = inr (inr a)
+    run_cases (ending.Fault t k p) a = inr (inr a)
+    run_cases (ending.NoEvent name t) a = inr (inr a)
+    run_cases (ending.Limit n t) a = inr (inr a)
+
+    -- what stands where it has ended: one of the two refusals, or all that is due, whatever stands before it
+    abbrev pub IsOver : Ending → Type 0
+    IsOver by = RefusedSo by ⊎ StateRefusedSo by ⊎ RunFinishes r x by
 
     -- two refusals are of one kind
     two_refusals : (by other : Ending) → RefusedSo by → RefusedSo other → status_of by ≡ status_of other
@@ -228,36 +251,135 @@ module _ (x : Seen) where
         go (origin.Spec name) a b = refused_three by (x.taken Spec) name a ∙ sym (refused_three other (x.taken Spec) name b)
         go (origin.Code name) a b = refused_nine by (x.taken slot.Code) name a ∙ sym (refused_nine other (x.taken slot.Code) name b)
 
-    one_run : (by other : Ending) → OfTrace r x by → OfTrace r x other → status_of by ≡ status_of other
-    one_run by other a b =
-        let one = one_program x r.origin (λ p. OfEnding by (λ how. EndsAs p (options_of r) (x.taken Trace) (x.ended Trace) how)) (λ p. OfEnding other (λ how. EndsAs p (options_of r) (x.taken Trace) (x.ended Trace) how)) a b in
-        ap status_of one.one.by_is
-        ∙ same_status (options_of r) (x.taken Trace) (x.ended Trace) one.program one.one.how one.other.how one.one.holds one.other.holds
-        ∙ sym (ap status_of one.other.by_is)
+    abbrev IsRefusedState : StateFault → Program → Type 0
+    IsRefusedState fault p = RefusesState r.resume p x fault
 
-    run_causes : (by other : Ending) → RunCause r x by → RunCause r x other → status_of by ≡ status_of other
-    run_causes by other a b = elim (run_cases by a) [
-      | inl refused ↦ elim (run_cases other b) [
-        | inl too ↦ two_refusals by other refused too
-        | inr watch ↦ absurd (runs_unrefused x r.origin (λ p. OfEnding other (λ how. EndsAs p (options_of r) (x.taken Trace) (x.ended Trace) how)) by watch refused)
+    -- in the trace, with something that stands before the run, and whatever does
+    abbrev HasCause : Ending → Program → Before → Type 0
+    HasCause by p b = OfEnding by (λ how. EndsAt p b.options (all_of b x) (tells_end r) (x.ended Trace) how)
+
+    abbrev InTrace : Ending → Program → Type 0
+    InTrace by p = (b : Before) × IsBefore r.resume r p x b × HasCause by p b
+
+    abbrev Finished : Ending → Program → Type 0
+    Finished by p = HasState r.resume p x × ((b : Before) → IsBefore r.resume r p x b → OfEnding by (λ how. WatchEndsAs p b (tells_end r) how x))
+
+    -- what stands before a run that goes on is no state that is refused
+    trace_or_state : (by : Ending) (fault : StateFault) → OfTrace r x by → StateCause r x fault → ⊥
+    trace_or_state by fault a b =
+        let one = one_program x r.origin (InTrace by) (IsRefusedState fault) a b in
+        state_unrefused one.program x r.resume fault (left_can_go_on one.program x r.resume r one.one.0 one.one.1) one.other
+
+    finished_or_state : (by : Ending) (fault : StateFault) → RunFinishes r x by → StateCause r x fault → ⊥
+    finished_or_state by fault a b =
+        let one = one_program x r.origin (Finished by) (IsRefusedState fault) a.ends b in
+        state_unrefused one.program x r.resume fault one.one.0 one.other
+
+    -- What stands whatever is before the run stands with what is before it in the cause.
+    one_run : (by other : Ending) → RunFinishes r x by → OfTrace r x other → status_of by ≡ status_of other
+    one_run by other a b =
+        let one = one_program x r.origin (Finished by) (InTrace other) a.ends b in
+        let (before, is, cause) = one.other in
+        let ended = one.one.1 before is in
+        ap status_of ended.by_is
+        ∙ same_status before.options (all_of before x) (tells_end r) (x.ended Trace) one.program ended.how cause.how ended.holds.ends cause.holds
+        ∙ sym (ap status_of cause.by_is)
+
+    run_statuses : (by other : Ending) → IsOver by → RunCause r x other → status_of by ≡ status_of other
+    run_statuses by other (inl refused) b = elim (run_cases other b) [
+      | inl too ↦ two_refusals by other refused too
+      | inr (inl state) ↦ absurd (runs_unrefused x r.origin (IsRefusedState state.0) by state.2 refused)
+      | inr (inr cause) ↦ absurd (runs_unrefused x r.origin (InTrace other) by cause refused)
+    ]
+    run_statuses by other (inr (inl state)) b = elim (run_cases other b) [
+      | inl refused ↦ absurd (runs_unrefused x r.origin (IsRefusedState state.0) other state.2 refused)
+      | inr (inl too) ↦ ap status_of state.1 ∙ sym (ap status_of too.1)
+      | inr (inr cause) ↦ absurd (trace_or_state other state.0 cause state.2)
+    ]
+    run_statuses by other (inr (inr ended)) b = elim (run_cases other b) [
+      | inl refused ↦ absurd (runs_unrefused x r.origin (Finished by) other ended.ends refused)
+      | inr (inl state) ↦ absurd (finished_or_state by state.0 ended state.2)
+      | inr (inr cause) ↦ one_run by other ended cause
+    ]
+
+    -- before its work a run has its cause alone
+    early_over : (by : Ending) → (stage_of by ≡ at_work → ⊥) → RunCause r x by → IsOver by
+    early_over by early a = elim (run_cases by a) [
+      | inl refused ↦ inl refused
+      | inr (inl state) ↦ inr (inl state)
+      | inr (inr cause) ↦
+          let one = one_program x r.origin (InTrace by) (InTrace by) cause cause in
+          let ended = one.one.2 in
+          absurd (early (ap stage_of ended.by_is ∙ run_at_work ended.how))
+    ]
+
+  -- a question ends since the specification is refused, or no output has the name, or by its answer
+  module _ (w : Why) where
+    abbrev SpecRefused : Ending → Type 0
+    SpecRefused by = (fault : SpecFault) × (by ≡ ending.Spec fault) × IsRefusedBy (x.taken Spec) fault
+
+    abbrev IsNameless : Ending → Type 0
+    IsNameless by = (by ≡ ending.NoOutput w.output) × OfSource x (λ items s. HasOutput s w.output → ⊥)
+
+    abbrev IsAnswered : Ending → Type 0
+    IsAnswered by = OfAnswer w x (λ how. by ≡ answered w how)
+
+    why_cases : (by : Ending) → WhyCause w x by → SpecRefused by ⊎ IsNameless by ⊎ IsAnswered by
+    why_cases (ending.Spec fault) a = inl (fault, refl, a)
+    why_cases (ending.NoOutput name) a = inr (inl (ap ending.NoOutput a.0, subst (λ (l : List ℕ). OfSource x (λ items s. HasOutput s l → ⊥)) a.0 a.1))
+    why_cases ending.Done a = inr (inr a)
+    why_cases ending.Words a = inr (inr a)
+    why_cases (ending.Code fault) a = inr (inr a)
+    why_cases (ending.State fault) a = inr (inr a)
+    why_cases (ending.Trace fault) a = inr (inr a)
+    why_cases (ending.Fault t k p) a = inr (inr a)
+    why_cases (ending.NoEvent name t) a = inr (inr a)
+    why_cases (ending.Limit n t) a = inr (inr a)
+
+    -- a specification that is refused asks nothing
+    refused_asks_none : (by other : Ending) → SpecRefused by → IsNameless other ⊎ IsAnswered other → ⊥
+    refused_asks_none by other (fault, is, refused) (inl (named, none)) = refused_compiles_none (x.taken Spec) fault none.items none.system refused none.compiled
+    refused_asks_none by other (fault, is, refused) (inr answer) = refused_compiles_none (x.taken Spec) fault answer.items answer.system refused answer.compiled
+
+    -- an output has the name, or none has
+    nameless_or_answered : (by other : Ending) → IsNameless by → IsAnswered other → ⊥
+    nameless_or_answered by other (named, none) answer =
+        let one = one_is_compiled (x.taken Spec) none.items answer.items none.system answer.system none.compiled answer.compiled in
+        subst (λ (s : System). HasOutput s w.output → ⊥) one.1 none.holds (answer.holds.0, answer.holds.1)
+
+    why_causes : (by other : Ending) → WhyCause w x by → WhyCause w x other → status_of by ≡ status_of other
+    why_causes by other a b = elim (why_cases by a) [
+      | inl refused ↦ elim (why_cases other b) [
+        | inl too ↦ ap status_of refused.1 ∙ sym (ap status_of too.1)
+        | inr asks ↦ absurd (refused_asks_none by other refused asks)
       ]
-      | inr watch ↦ elim (run_cases other b) [
-        | inl refused ↦ absurd (runs_unrefused x r.origin (λ p. OfEnding by (λ how. EndsAs p (options_of r) (x.taken Trace) (x.ended Trace) how)) other watch refused)
-        | inr too ↦ one_run by other watch too
+      | inr (inl nameless) ↦ elim (why_cases other b) [
+        | inl refused ↦ absurd (refused_asks_none other by refused (inl nameless))
+        | inr (inl too) ↦ ap status_of nameless.0 ∙ sym (ap status_of too.0)
+        | inr (inr answer) ↦ absurd (nameless_or_answered by other nameless answer)
+      ]
+      | inr (inr answer) ↦ elim (why_cases other b) [
+        | inl refused ↦ absurd (refused_asks_none other by refused (inr answer))
+        | inr (inl nameless) ↦ absurd (nameless_or_answered other by nameless answer)
+        | inr (inr too) ↦ one_status w x by other answer too
       ]
     ]
 
-    -- where a run finishes, this is its cause
-    watch_cause : (by : Ending) → OfRun r.origin x (λ p. OfEnding by (λ how. WatchEndsAs p (options_of r) how x)) → OfTrace r x by
-    watch_cause by f =
-        of_run_weaker x r.origin (λ p. OfEnding by (λ how. WatchEndsAs p (options_of r) how x)) (λ p. OfEnding by (λ how. EndsAs p (options_of r) (x.taken Trace) (x.ended Trace) how))
-        (λ p can h. record { how = h.how; by_is = h.by_is; holds = h.holds.ends }) f
+    -- what is written whole has its answer
+    finished_answered : (by : Ending) → OfAnswer w x (λ how. (by ≡ answered w how) × (x.given Out ≡ answer_text how)) → IsAnswered by
+    finished_answered by a = of_answer_weaker w x (λ how. (by ≡ answered w how) × (x.given Out ≡ answer_text how)) (λ how. by ≡ answered w how) (λ how both. both.0) a
 
-  -- two causes of one command have one status
-  pub causes : (c : Option Command) (by other : Ending) → Cause c x by → Cause c x other → status_of by ≡ status_of other
+  -- why a command has ended, by what stands there
+  abbrev pub HasEnded : Option Command → Ending → Type 0
+  HasEnded (Some (command.Run r)) by = IsOver r by
+  HasEnded c by = Cause c x by
+
+  -- what has ended a command has the status of each of its causes
+  pub causes : (c : Option Command) (by other : Ending) → HasEnded c by → Cause c x other → status_of by ≡ status_of other
   causes None by other a b = ap status_of a ∙ sym (ap status_of b)
   causes (Some (command.Write spec f)) by other a b = write_causes f by other a b
-  causes (Some (command.Run r)) by other a b = run_causes r by other a b
+  causes (Some (command.Run r)) by other a b = run_statuses r by other a b
+  causes (Some (command.Why w)) by other a b = why_causes w by other a b
   causes (Some (command.Generate n)) by other a b = ap status_of a ∙ sym (ap status_of b)
   causes (Some (command.Bench kind n)) by other a b = bench_causes kind n by other a b
 
@@ -270,52 +392,75 @@ module _ (x : Seen) where
   text_allows (form.Slice name) s set order taken text is = (is.0, is.1)
   text_allows (form.File name) s set order taken text is = record { set = set; order = order; taken = taken; holds = subst (λ (l : List ℕ). length l ≤ MOST_CODE_BYTES) is.0 is.1 }
 
-  -- What finishes has its cause.
-  done_cause : (c : Option Command) → Finishes c x ending.Done → Cause c x ending.Done
-  done_cause None f = absurd f
-  done_cause (Some (command.Write spec g)) f = let has = f.1.is in
+  -- What finishes has ended so.
+  done_ended : (c : Option Command) → Finishes c x ending.Done → HasEnded c ending.Done
+  done_ended None f = absurd f
+  done_ended (Some (command.Write spec g)) f = let has = f.1.is in
       record { items = has.items; system = has.system; compiled = has.compiles; holds = text_allows g has.system has.set has.order has.taken f.1.text has.is }
-  done_cause (Some (command.Run r)) f = watch_cause r ending.Done f
-  done_cause (Some (command.Generate n)) f = refl
-  done_cause (Some (command.Bench kind n)) f = (x.given Out, f)
+  done_ended (Some (command.Run r)) f = inr (inr f.0)
+  done_ended (Some (command.Why w)) f = finished_answered w ending.Done f
+  done_ended (Some (command.Generate n)) f = refl
+  done_ended (Some (command.Bench kind n)) f = (x.given Out, f)
 
-  trace_cause : (c : Option Command) (fault : TraceFault) → Finishes c x (ending.Trace fault) → Cause c x (ending.Trace fault)
-  trace_cause None fault f = absurd f
-  trace_cause (Some (command.Write spec g)) fault f = absurd (let e : ending.Trace fault ≡ ending.Done = f.0 in cc)
-  trace_cause (Some (command.Run r)) fault f = watch_cause r (ending.Trace fault) f
-  trace_cause (Some (command.Generate n)) fault f = f.0
-  trace_cause (Some (command.Bench kind n)) fault f = f.0
+  trace_ended : (c : Option Command) (fault : TraceFault) → Finishes c x (ending.Trace fault) → HasEnded c (ending.Trace fault)
+  trace_ended None fault f = absurd f
+  trace_ended (Some (command.Write spec g)) fault f = absurd (let e : ending.Trace fault ≡ ending.Done = f.0 in cc)
+  trace_ended (Some (command.Run r)) fault f = inr (inr f.0)
+  trace_ended (Some (command.Why w)) fault f = finished_answered w (ending.Trace fault) f
+  trace_ended (Some (command.Generate n)) fault f = f.0
+  trace_ended (Some (command.Bench kind n)) fault f = f.0
 
-  fault_cause : (c : Option Command) (t : ℕ) (k : FaultKind) (p : Place) → Finishes c x (ending.Fault t k p) → Cause c x (ending.Fault t k p)
-  fault_cause None t k p f = absurd f
-  fault_cause (Some (command.Write spec g)) t k p f = absurd (let e : ending.Fault t k p ≡ ending.Done = f.0 in cc)
-  fault_cause (Some (command.Run r)) t k p f = watch_cause r (ending.Fault t k p) f
-  fault_cause (Some (command.Generate n)) t k p f = f.0
-  fault_cause (Some (command.Bench kind n)) t k p f = f.0
+  fault_ended : (c : Option Command) (t : ℕ) (k : FaultKind) (p : Place) → Finishes c x (ending.Fault t k p) → HasEnded c (ending.Fault t k p)
+  fault_ended None t k p f = absurd f
+  fault_ended (Some (command.Write spec g)) t k p f = absurd (let e : ending.Fault t k p ≡ ending.Done = f.0 in cc)
+  fault_ended (Some (command.Run r)) t k p f = inr (inr f.0)
+  fault_ended (Some (command.Why w)) t k p f = finished_answered w (ending.Fault t k p) f
+  fault_ended (Some (command.Generate n)) t k p f = f.0
+  fault_ended (Some (command.Bench kind n)) t k p f = f.0
 
-  limit_cause : (c : Option Command) (n t : ℕ) → Finishes c x (ending.Limit n t) → Cause c x (ending.Limit n t)
-  limit_cause None n t f = absurd f
-  limit_cause (Some (command.Write spec g)) n t f = absurd (let e : ending.Limit n t ≡ ending.Done = f.0 in cc)
-  limit_cause (Some (command.Run r)) n t f = watch_cause r (ending.Limit n t) f
-  limit_cause (Some (command.Generate m)) n t f = f.0
-  limit_cause (Some (command.Bench kind m)) n t f = f.0
+  limit_ended : (c : Option Command) (n t : ℕ) → Finishes c x (ending.Limit n t) → HasEnded c (ending.Limit n t)
+  limit_ended None n t f = absurd f
+  limit_ended (Some (command.Write spec g)) n t f = absurd (let e : ending.Limit n t ≡ ending.Done = f.0 in cc)
+  limit_ended (Some (command.Run r)) n t f = inr (inr f.0)
+  limit_ended (Some (command.Why w)) n t f = finished_answered w (ending.Limit n t) f
+  limit_ended (Some (command.Generate m)) n t f = f.0
+  limit_ended (Some (command.Bench kind m)) n t f = f.0
+
+  no_event_ended : (c : Option Command) (name : List ℕ) (t : ℕ) → Finishes c x (ending.NoEvent name t) → HasEnded c (ending.NoEvent name t)
+  no_event_ended None name t f = absurd f
+  no_event_ended (Some (command.Write spec g)) name t f = absurd (let e : ending.NoEvent name t ≡ ending.Done = f.0 in cc)
+  no_event_ended (Some (command.Run r)) name t f = inr (inr f.0)
+  no_event_ended (Some (command.Why w)) name t f = finished_answered w (ending.NoEvent name t) f
+  no_event_ended (Some (command.Generate m)) name t f = f.0
+  no_event_ended (Some (command.Bench kind m)) name t f = f.0
+
+  -- a refusal before the work has its cause
+  refusal_ended : (c : Option Command) (by : Ending) → (stage_of by ≡ at_work → ⊥) → Cause c x by → HasEnded c by
+  refusal_ended None by early a = a
+  refusal_ended (Some (command.Write spec f)) by early a = a
+  refusal_ended (Some (command.Run r)) by early a = early_over r by early a
+  refusal_ended (Some (command.Why w)) by early a = a
+  refusal_ended (Some (command.Generate n)) by early a = a
+  refusal_ended (Some (command.Bench kind n)) by early a = a
 
   -- so has what stands
-  pub stands_cause : (c : Option Command) (by : Ending) → Stands c by x → Cause c x by
-  stands_cause c ending.Done s = done_cause c s.holds
-  stands_cause c ending.Words s = s.holds
-  stands_cause c (ending.Spec fault) s = s.holds
-  stands_cause c (ending.Code fault) s = s.holds
-  stands_cause c (ending.NoOutput name) s = s.holds
-  stands_cause c (ending.Trace fault) s = trace_cause c fault s.holds
-  stands_cause c (ending.Fault t k p) s = fault_cause c t k p s.holds
-  stands_cause c (ending.Limit n t) s = limit_cause c n t s.holds
+  pub stands_ended : (c : Option Command) (by : Ending) → Stands c by x → HasEnded c by
+  stands_ended c ending.Done s = done_ended c s.holds
+  stands_ended c ending.Words s = refusal_ended c ending.Words (λ is. absurd (let e : at_words ≡ at_work = is in cc)) s.holds
+  stands_ended c (ending.Spec fault) s = refusal_ended c (ending.Spec fault) (λ is. absurd (let e : at_program ≡ at_work = is in cc)) s.holds
+  stands_ended c (ending.Code fault) s = refusal_ended c (ending.Code fault) (λ is. absurd (let e : at_program ≡ at_work = is in cc)) s.holds
+  stands_ended c (ending.NoOutput name) s = refusal_ended c (ending.NoOutput name) (λ is. absurd (let e : at_program ≡ at_work = is in cc)) s.holds
+  stands_ended c (ending.State fault) s = refusal_ended c (ending.State fault) (λ is. absurd (let e : at_state ≡ at_work = is in cc)) s.holds
+  stands_ended c (ending.Trace fault) s = trace_ended c fault s.holds
+  stands_ended c (ending.Fault t k p) s = fault_ended c t k p s.holds
+  stands_ended c (ending.NoEvent name t) s = no_event_ended c name t s.holds
+  stands_ended c (ending.Limit n t) s = limit_ended c n t s.holds
 
 -- the status is that of the ending that has its cause
 pub exact : (c : Option Command) (part : List Did) (before now : Failures) (status : ℕ) → Concludes c before now status part → IsExact c status (seen part)
 exact c part before now status says by has = by_outcome says.outcome
   where
     by_outcome : Outcome c before now status part → (status ≡ status_of by) ⊎ (status ≡ 5) ⊎ (status ≡ 6)
-    by_outcome (told other is ends) = inl (is ∙ causes (seen part) c other by (stands_cause (seen part) c other ends.stands) has)
+    by_outcome (told other is ends) = inl (is ∙ causes (seen part) c other by (stands_ended (seen part) c other ends.stands) has)
     by_outcome (outside five some) = inr (inl five)
     by_outcome (memory six line) = inr (inr six)

@@ -1,5 +1,6 @@
 -- What the journal of a run shows, and what is read whole first.
-use Rattle.std.proofs.Common.{◌≡◌, ◌⊎◌, inl, inr, ℕ, ◌<◌, ◌≤◌, Bool, true, false, List, [], ◌∷◌, ◌++◌, length, refl, sym, ◌∙◌, ap, subst, Option, Some, None}
+use Rattle.std.proofs.Common.{◌≡◌, ◌⊎◌, inl, inr, ℕ, ◌≤◌, true, false, List, [], ◌∷◌, ◌++◌, length, refl, sym, ◌∙◌, ap, subst, append_assoc, Option, Some}
+use Rattle.std.specs.Prelude.{⊤}
 use Rattle.std.proofs.lemmas.List.{append-nil}
 use Rattle.command_words.specs.declared.command.Command.{Command}
 use Rattle.tsl_world.specs.Begins.{Begins}
@@ -7,24 +8,23 @@ use Rattle.tsl_world.specs.declared.outside.Did.{Did}
 use Rattle.tsl_world.specs.declared.outside.Did.TheVariants.{Opened, Created, Took, Gave, NotOpened, NotCreated, NotTook, NotGave}
 use Rattle.tsl_world.specs.declared.outside.Slot.{Slot}
 use Rattle.tsl_world.specs.declared.outside.Slot.TheVariants as slot
-use Rattle.tsl_world.specs.declared.outside.Slot.TheVariants.{Spec, Trace}
+use Rattle.tsl_world.specs.declared.outside.Slot.TheVariants.{Trace}
 use Rattle.tsl_world.specs.declared.outside.Channel.{Channel}
 use Rattle.tsl_world.specs.declared.outside.Channel.TheVariants as channel
 use Rattle.tsl_world.specs.declared.outside.Channel.TheVariants.{Out, Err}
 use Rattle.tsl_world.specs.Journal.{given, taken, ended, openings, creations, same_channel, same_slot, AtAll, AtEntries, AtReads, StopsAtEnd, StopsAtFailure, IsAny, IsCreation, IsDone, IsGift, IsOpening, IsRead, IsNoRead, IsNoGift, IsTransfer, IsWithin, Each}
 use Rattle.tsl_world.specs.Seen.{Seen, seen}
 use Rattle.tsl_world.proofs.Journals.{openings-append, creations-append, Each-append, each_more}
-use Rattle.tsl_world.proofs.Untouched.{not_gift, not_read, taken_before, taken_after, ended_before, given_none, openings_none, creations_none, transfer_makes_none, transfer_opens_none}
-use Rattle.tsl_world.proofs.Places.{at_none, at_not, at_no_read, at_join, at_more, at_after, at_weaker, at_fewer, at_each, at_each_join, stops_after}
-use Rattle.tessla_cli.specs.Asked.{for_asked, made_files, program_files, trace_files}
-use Rattle.tessla_cli.specs.Stages.{AreWhole, AreWholeBefore, HasWhole, IsNotPast, IsPast, at_work, most_of, opened_at}
-use Rattle.tessla_cli.specs.Conduct.{IsAllWhole, IsTurn, MakesAsAsked, MakesLast, MayMake, TakesInTurn, WritesLast, StopsAtEnds, StopsAtLimits, ReadsPieces, OpensAsAsked, BeginsOn, GoesOnAtRead, GoesOnAtReads, IsPartlyDue}
+use Rattle.tsl_world.proofs.Untouched.{not_gift, not_read, taken_before, taken_after, ended_after, ended_before, given_after, given_none, openings_none, transfer_makes_none, transfer_opens_none}
+use Rattle.tsl_world.proofs.Places.{at_none, at_not, at_no_read, at_join, at_more, at_after, at_weaker, at_fewer, at_each, at_each_join, at_one, stops_after, stops_one}
+use Rattle.tessla_cli.specs.Asked.{for_asked, made_files, trace_files}
+use Rattle.tessla_cli.specs.Stages.{AreWhole, AreWholeBefore, HasWhole, IsNotPast, IsPast, at_work, most_of, opened_at, whole_at}
+use Rattle.tessla_cli.specs.Conduct.{IsAllWhole, IsJudged, IsTurn, MakesAsAsked, MakesLast, MayMake, TakesInTurn, WritesLast, StopsAtEnds, StopsAtLimits, ReadsPieces, OpensAsAsked, BeginsOn, GoesOnAtRead, GoesOnAtReads, IsPartlyDue}
 use Rattle.tessla_cli.specs.Headline.{IsDueAtRead, IsDueAtReads}
 use Rattle.trace_run.specs.Effects.{IsTraceWork}
-use Rattle.tessla_cli.specs.inner.RunPhases.{IsTake, MayReadFile, ReadsFile, GivesFile}
+use Rattle.tessla_cli.specs.inner.RunPhases.{IsTake, MayReadFile, ReadsFile, GivesFile, ReadsName, unopened, no_file, reading}
 use Rattle.tessla_cli.proofs.Reading.{same_slot_itself}
 use Rattle.trace_reader.specs.declared.limits.TheConstants.{MOST_PIECE_BYTES}
-use Rattle.spec_lexer.specs.declared.limits.TheConstants.{MOST_SOURCE_BYTES}
 
 -- What holds of each read of a slot holds of a part of such reads, and so for a part that reads the trace and writes output.
 pub each_take : (P : Did → Type 0) (from : Slot) → ((bytes : List ℕ) → length bytes ≤ MOST_PIECE_BYTES → P (Took from bytes)) → P (NotTook from) → (part : List Did) → Each (IsTake from) part → Each P part
@@ -92,18 +92,22 @@ makes_none c part none = record { rest = for_asked made_files c; is = ap (λ (l 
 pub none_made_last : (c : Option Command) (part : List Did) → Each (λ did. IsCreation did → ⊥) part → MakesLast c part
 none_made_last c part none = at_not IsCreation (λ before. IsAllWhole c (seen before) × MayMake c (seen before)) part none
 
+-- what is said of each channel but Err
+abbrev pub IsOn : Option Command → List Did → Channel → Type 0
+IsOn c part to = ((seen part).given to ≡ []) ⊎ BeginsOn c (seen part) to
+
+pub partly_of : (c : Option Command) (part : List Did) → IsOn c part Out → IsOn c part channel.State → IsOn c part channel.Code → IsPartlyDue c (seen part)
+partly_of c part out state code channel.Out = out
+partly_of c part out state code channel.Err = inl refl
+partly_of c part out state code channel.State = state
+partly_of c part out state code channel.Code = code
+
 -- one channel alone is written
-pub on_out : (c : Option Command) (part : List Did) → ((to : Channel) → same_channel Out to ≡ false → Each (IsNoGift to) part) → (given Out part ≡ []) ⊎ BeginsOn c (seen part) Out → IsPartlyDue c (seen part)
-on_out c part others out channel.Out = out
-on_out c part others out channel.Err = inl refl
-on_out c part others out channel.State = inl (nothing_given part channel.State (others channel.State refl))
-on_out c part others out channel.Code = inl (nothing_given part channel.Code (others channel.Code refl))
+pub on_out : (c : Option Command) (part : List Did) → ((to : Channel) → same_channel Out to ≡ false → Each (IsNoGift to) part) → IsOn c part Out → IsPartlyDue c (seen part)
+on_out c part others out = partly_of c part out (inl (nothing_given part channel.State (others channel.State refl))) (inl (nothing_given part channel.Code (others channel.Code refl)))
 
 pub on_code : (c : Option Command) (part : List Did) → ((to : Channel) → same_channel channel.Code to ≡ false → Each (IsNoGift to) part) → BeginsOn c (seen part) channel.Code → IsPartlyDue c (seen part)
-on_code c part others code channel.Out = inl (nothing_given part channel.Out (others channel.Out refl))
-on_code c part others code channel.Err = inl refl
-on_code c part others code channel.State = inl (nothing_given part channel.State (others channel.State refl))
-on_code c part others code channel.Code = inr code
+on_code c part others code = partly_of c part (inl (nothing_given part channel.Out (others channel.Out refl))) (inl (nothing_given part channel.State (others channel.State refl))) (inr code)
 
 -- this slot, or another
 which_slot : (from at : Slot) → (from ≡ at) ⊎ (same_slot from at ≡ false)
@@ -131,241 +135,439 @@ by_slot from P first others at = elim (which_slot from at) [
   | inr other ↦ others at other
 ]
 
--- what holds of entries of one slot, and then of those of each other one
-pub of_each : (from : Slot) (Q : Slot → Did → Type 0) (P : Slot → List Did → Type 0) (part : List Did) → ((before : List Did) → P from before)
-    → ((at : Slot) → same_slot from at ≡ false → AtEntries (Q at) (P at) part) → (at : Slot) → AtEntries (Q at) (P at) part
-of_each from Q P part first others = by_slot from (λ at. AtEntries (Q at) (P at) part) (λ before at. first before) others
+-- two slots are as far apart either way
+apart_back : (at from : Slot) → same_slot at from ≡ false → same_slot from at ≡ false
+apart_back at from other = elim (which_slot from at) [
+  | inl same ↦ let bad : false ≡ true = sym (subst (λ (s : Slot). same_slot at s ≡ false) same other) ∙ same_slot_itself at in absurd cc
+  | inr is ↦ is
+]
 
--- a part with no read and no write
-pub shows_few : (c : Option Command) (part : List Did) → OpensAsAsked c part → creations part ≡ [] → Each (λ did. IsCreation did → ⊥) part → ((from : Slot) → AtEntries (IsOpening from) (λ before. IsTurn c from (seen before)) part)
-    → ((from : Slot) → Each (IsNoRead from) part) → ((to : Channel) → Each (IsNoGift to) part) → ReadsPieces part → StopsAtFailure part → Shows c part
-shows_few c part opens makes unmade turns reads gifts pieces stops = record {
-  opens = opens;
-  makes = makes_none c part makes;
-  makes_last = none_made_last c part unmade;
-  in_turn = record { opens = turns; reads = λ from. at_no_read from (λ before. IsTurn c from (seen before)) part (reads from) };
-  writes_last = λ to other. at_not (IsGift to) (λ before. IsAllWhole c (seen before)) part (each_more (IsNoGift to) (λ did. IsGift to did → ⊥) (not_gift to) part (gifts to));
-  ends = λ from. at_no_read from _ part (reads from);
-  limits = λ from. at_no_read from _ part (reads from);
-  pieces = pieces;
-  stops = stops;
-  due = at_no_read Trace (λ before. IsDueAtRead c (seen before)) part (reads Trace);
-  goes_on = at_no_read Trace (λ before. GoesOnAtRead c (seen before)) part (reads Trace);
-  partly = λ to. inl (nothing_given part to (gifts to));
-  silent = gifts Err;
+-- no entry is of one slot and of another
+pub apart_none : {A : Type 0} (at from : Slot) → same_slot at from ≡ false → same_slot at from ≡ true → A
+apart_none at from other same = absurd (let bad : false ≡ true = sym other ∙ same in cc)
+
+-- nothing is made where no entry is a creation
+pub unmade_none : (part : List Did) → Each (λ did. IsCreation did → ⊥) part → creations part ≡ []
+unmade_none [] all = refl
+unmade_none (Created to name ∷ part) all = absurd (all.0 tt)
+unmade_none (NotCreated to name ∷ part) all = absurd (all.0 tt)
+unmade_none (did ∷ part) all = unmade_none part all.1
+
+-- ---- parts that read files in order
+
+-- so much of a file may be taken before a read
+abbrev IsWithinAt : Slot → List Did → Type 0
+IsWithinAt from before = IsNotPast (most_of from) (length (taken from before))
+
+-- What every journal shows of reads and of calls that failed.
+pub record IsOrderly (c : Command) (part : List Did) : Type 0 where
+  pub in_turn : TakesInTurn (Some c) part
+  pub ends : StopsAtEnds part
+  pub limits : StopsAtLimits part
+  pub pieces : ReadsPieces part
+  pub stops : StopsAtFailure part
+  pub silent : Each (IsNoGift Err) part
+
+-- so is a file opened that follows
+abbrev pub MayOpen : Option Command → Slot → List Did → Type 0
+MayOpen c from before = IsTurn c from (seen before) × IsJudged c from (seen before)
+
+-- nothing is read but this slot
+abbrev pub ReadsOnly : Slot → List Did → Type 0
+ReadsOnly own part = (at : Slot) → same_slot own at ≡ false → Each (IsNoRead at) part
+
+-- a slot is opened before all else, where it is opened
+abbrev pub OpensFirst : Slot → List Did → Type 0
+OpensFirst at part = AtEntries (IsOpening at) (λ less. less ≡ []) part
+
+pub opening_first : (at : Slot) (did : Did) (more : List Did) → Each (λ did. IsOpening at did → ⊥) more → OpensFirst at (did ∷ more)
+opening_first at did more none =
+    at_join (IsOpening at) (λ less. less ≡ []) (did ∷ []) more
+    (at_one (IsOpening at) (λ less. less ≡ []) [] did (at_none (IsOpening at) (λ less. less ≡ [])) refl) (at_not (IsOpening at) (λ less. did ∷ less ≡ []) more none)
+
+-- A part that opens and reads no other slot than this one, as every journal does.
+pub record ReadsSlot (own : Slot) (part : List Did) : Type 0 where
+  pub only : ReadsOnly own part
+  pub opens_only : (at : Slot) → same_slot own at ≡ false → Each (λ did. IsOpening at did → ⊥) part
+  pub opens_first : OpensFirst own part
+  pub ends : StopsAtEnd own part
+  pub limits : AtReads own (IsWithinAt own) part
+  pub pieces : ReadsPieces part
+  pub stops : StopsAtFailure part
+  pub silent : Each (IsNoGift Err) part
+
+-- A part that opens and reads nothing.
+pub record ReadsNothing (part : List Did) : Type 0 where
+  pub unread : (at : Slot) → Each (IsNoRead at) part
+  pub unopened : (at : Slot) → Each (λ did. IsOpening at did → ⊥) part
+  pub pieces : ReadsPieces part
+  pub stops : StopsAtFailure part
+  pub silent : Each (IsNoGift Err) part
+
+-- A part in which a file is opened and read, as far as it comes, and nothing else is done.
+pub record ReadsOneFile (at : Slot) (name : List ℕ) (part : List Did) : Type 0 where
+  pub reads : ReadsSlot at part
+  pub opens : (openings part ≡ []) ⊎ (openings part ≡ (at, name) ∷ [])
+  pub unmade : Each (λ did. IsCreation did → ⊥) part
+  pub ungiven : (to : Channel) → Each (IsNoGift to) part
+
+-- a file is opened before the rest of it is read
+pub opened_before : (at : Slot) (name : List ℕ) (rest : List Did) → ReadsSlot at rest → Each (λ did. IsOpening at did → ⊥) rest → ReadsSlot at (Opened at name ∷ rest)
+opened_before at name rest r none = record {
+  only = λ from other. (tt, r.only from other);
+  opens_only = λ from other. (apart_none at from other, r.opens_only from other);
+  opens_first = opening_first at (Opened at name) rest none;
+  ends = stops_after at (Opened at name ∷ []) rest (tt, tt) r.ends;
+  limits = at_after at (IsWithinAt at) (IsWithinAt at) (Opened at name ∷ []) rest (tt, tt) (λ less within. within) r.limits;
+  pieces = (tt, r.pieces);
+  stops = at_each_join IsDone (Opened at name ∷ []) rest (tt, tt) r.stops;
+  silent = (tt, r.silent);
 }
 
+-- a file could not be opened
+pub unopened_slot : (at : Slot) (name : List ℕ) → ReadsSlot at (NotOpened at name ∷ [])
+unopened_slot at name = record {
+  only = λ from other. (tt, tt);
+  opens_only = λ from other. (apart_none at from other, tt);
+  opens_first = opening_first at (NotOpened at name) [] tt;
+  ends = at_no_read at (λ before. ended at before ≡ false) (NotOpened at name ∷ []) (tt, tt);
+  limits = at_no_read at (IsWithinAt at) (NotOpened at name ∷ []) (tt, tt);
+  pieces = (tt, tt);
+  stops = stops_one [] (NotOpened at name) tt;
+  silent = (tt, tt);
+}
+
+module _ (at : Slot) (most : ℕ) (limit : most_of at ≡ Some most) (name : List ℕ) where
+  unopened_file : ReadsOneFile at name []
+  unopened_file = record {
+    reads = record {
+      only = λ from other. tt;
+      opens_only = λ from other. tt;
+      opens_first = at_none (IsOpening at) (λ less. less ≡ []);
+      ends = at_none (IsRead at) (λ before. ended at before ≡ false);
+      limits = at_none (IsRead at) (IsWithinAt at);
+      pieces = tt;
+      stops = at_none IsAny (Each IsDone);
+      silent = tt;
+    };
+    opens = inl refl;
+    unmade = tt;
+    ungiven = λ to. tt;
+  }
+
+  no_file_there : ReadsOneFile at name (NotOpened at name ∷ [])
+  no_file_there = record { reads = unopened_slot at name; opens = inr refl; unmade = ((λ (no : ⊥). no), tt); ungiven = λ to. (tt, tt) }
+
+  module _ (reads : List Did) (r : ReadsFile at most reads) where
+    transfers : Each IsTransfer reads
+    transfers = each_take IsTransfer at (λ bytes short. tt) tt reads r.only
+
+    file_limits : AtReads at (IsWithinAt at) (Opened at name ∷ reads)
+    file_limits =
+        at_after at (MayReadFile at most) (IsWithinAt at) (Opened at name ∷ []) reads (tt, tt)
+        (λ less h. subst (λ (m : Option ℕ). IsNotPast m (length (taken at less))) (sym limit) h.within) r.reads
+
+    file_opens : openings (Opened at name ∷ reads) ≡ (at, name) ∷ []
+    file_opens = ap (λ (l : List (Slot × List ℕ)). (at, name) ∷ l) (openings_none reads transfers)
+
+    reading_file : ReadsOneFile at name (Opened at name ∷ reads)
+    reading_file = record {
+      reads = record {
+        only = λ from other. (tt, each_take (IsNoRead from) at (λ bytes short. other) other reads r.only);
+        opens_only = λ from other. (apart_none at from other, no_opening_in from reads transfers);
+        opens_first = opening_first at (Opened at name) reads (no_opening_in at reads transfers);
+        ends = at_after at (MayReadFile at most) (λ before. ended at before ≡ false) (Opened at name ∷ []) reads (tt, tt) (λ less h. h.unended) r.reads;
+        limits = file_limits;
+        pieces = (tt, each_take (IsWithin MOST_PIECE_BYTES) at (λ bytes short. short) tt reads r.only);
+        stops = at_each_join IsDone (Opened at name ∷ []) reads (tt, tt) r.stops;
+        silent = (tt, each_take (IsNoGift Err) at (λ bytes short. tt) tt reads r.only);
+      };
+      opens = inr file_opens;
+      unmade = ((λ (no : ⊥). no), no_creation_in reads transfers);
+      ungiven = λ to. (tt, each_take (IsNoGift to) at (λ bytes short. tt) tt reads r.only);
+    }
+
+  one_file : (part : List Did) → ReadsName at most name part → ReadsOneFile at name part
+  one_file _ unopened = unopened_file
+  one_file _ no_file = no_file_there
+  one_file _ (reading reads r) = reading_file reads r
+
+-- ---- fronts
+
+-- no file of these stands in the slot
+abbrev pub AreApart : Slot → List (Slot × List ℕ) → Type 0
+AreApart at [] = ⊤
+AreApart at (file ∷ files) = (same_slot at file.0 ≡ false) × AreApart at files
+
+apart_parts : (at : Slot) (files more : List (Slot × List ℕ)) → AreApart at (files ++ more) → AreApart at files × AreApart at more
+apart_parts at [] more apart = (tt, apart)
+apart_parts at (file ∷ files) more apart = let rest = apart_parts at files more apart.1 in ((apart.0, rest.0), rest.1)
+
+whole_parts : (x : Seen) (files more : List (Slot × List ℕ)) → AreWhole files x → AreWhole more x → AreWhole (files ++ more) x
+whole_parts x [] more w v = v
+whole_parts x (file ∷ files) more w v = (w.0, whole_parts x files more w.1 v)
+
+-- files stay whole where another slot is read
+whole_on : (own : Slot) (files : List (Slot × List ℕ)) → AreApart own files → (part more : List Did) → ReadsOnly own more → AreWhole files (seen part) → AreWhole files (seen (part ++ more))
+whole_on own [] apart part more only w = tt
+whole_on own (file ∷ files) apart part more only w = (whole_more file.0 part more (only file.0 apart.0) w.0, whole_on own files apart.1 part more only w.1)
+
+-- it is the turn of a file where those before it are whole
+turn_of : (at : Slot) (name : List ℕ) (files more : List (Slot × List ℕ)) (x : Seen) → AreWhole files x → AreWholeBefore at (files ++ (at, name) ∷ more) x
+turn_of at name [] more x w = inl (same_slot_itself at)
+turn_of at name (file ∷ files) more x w = inr (w.0, turn_of at name files more x w.1)
+
+-- what begins a list begins it after the same front
+pub begins_after : {A : Type 0} (front short whole : List A) → Begins short whole → Begins (front ++ short) (front ++ whole)
+begins_after front short whole b = record { rest = b.rest; is = ap (λ (l : List _). front ++ l) b.is ∙ sym (append_assoc front short b.rest) }
+
+-- What is known of a part in which these files were read, one after another and each whole, and nothing else was done.
+pub record Front (c : Command) (files : List (Slot × List ℕ)) (front : List Did) : Type 0 where
+  pub opens : openings front ≡ files
+  pub unmade : Each (λ did. IsCreation did → ⊥) front
+  pub ungiven : (to : Channel) → Each (IsNoGift to) front
+  pub unread : (at : Slot) → AreApart at files → Each (IsNoRead at) front
+  pub unopened : (at : Slot) → AreApart at files → Each (λ did. IsOpening at did → ⊥) front
+  pub done : Each IsDone front
+  pub whole : AreWhole files (seen front)
+  pub orderly : IsOrderly c front
+
+-- before any file
+pub front_none : (c : Command) → Front c [] []
+front_none c = record {
+  opens = refl;
+  unmade = tt;
+  ungiven = λ to. tt;
+  unread = λ at apart. tt;
+  unopened = λ at apart. tt;
+  done = tt;
+  whole = tt;
+  orderly = record {
+    in_turn = record { opens = λ from. at_none (IsOpening from) (MayOpen (Some c) from); reads = λ from. at_none (IsRead from) (λ before. IsTurn (Some c) from (seen before)) };
+    ends = λ from. at_none (IsRead from) (λ before. ended from before ≡ false);
+    limits = λ from. at_none (IsRead from) (IsWithinAt from);
+    pieces = tt;
+    stops = at_none IsAny (Each IsDone);
+    silent = tt;
+  };
+}
+
+-- a part with no creation, no write and no read of the trace
+shows_quiet : (c : Command) (part : List Did) → OpensAsAsked (Some c) part → Each (λ did. IsCreation did → ⊥) part → ((to : Channel) → Each (IsNoGift to) part) → Each (IsNoRead Trace) part → IsOrderly c part → Shows (Some c) part
+shows_quiet c part opens unmade gifts unread o = record {
+  opens = opens;
+  makes = makes_none (Some c) part (unmade_none part unmade);
+  makes_last = none_made_last (Some c) part unmade;
+  in_turn = o.in_turn;
+  writes_last = λ to other. at_not (IsGift to) (λ before. IsAllWhole (Some c) (seen before)) part (each_more (IsNoGift to) (λ did. IsGift to did → ⊥) (not_gift to) part (gifts to));
+  ends = o.ends;
+  limits = o.limits;
+  pieces = o.pieces;
+  stops = o.stops;
+  due = at_no_read Trace (λ before. IsDueAtRead (Some c) (seen before)) part unread;
+  goes_on = at_no_read Trace (λ before. GoesOnAtRead (Some c) (seen before)) part unread;
+  partly = λ to. inl (nothing_given part to (gifts to));
+  silent = o.silent;
+}
+
+-- where nothing was done
 pub shows_none : (c : Option Command) → Shows c []
-shows_none c =
-    shows_few c [] (record { rest = for_asked (opened_at at_work) c; is = refl }) refl tt (λ from. at_none (IsOpening from) (λ before. IsTurn c from (seen before))) (λ from. tt) (λ to. tt) tt
-    (at_none IsAny (Each IsDone))
+shows_none c = record {
+  opens = record { rest = for_asked (opened_at at_work) c; is = refl };
+  makes = makes_none c [] refl;
+  makes_last = none_made_last c [] tt;
+  in_turn = record { opens = λ from. at_none (IsOpening from) (MayOpen c from); reads = λ from. at_none (IsRead from) (λ before. IsTurn c from (seen before)) };
+  writes_last = λ to other. at_none (IsGift to) (λ before. IsAllWhole c (seen before));
+  ends = λ from. at_none (IsRead from) (λ before. ended from before ≡ false);
+  limits = λ from. at_none (IsRead from) (IsWithinAt from);
+  pieces = tt;
+  stops = at_none IsAny (Each IsDone);
+  due = at_none (IsRead Trace) (λ before. IsDueAtRead c (seen before));
+  goes_on = at_none (IsRead Trace) (λ before. GoesOnAtRead c (seen before));
+  partly = λ to. inl (nothing_given [] to tt);
+  silent = tt;
+}
 
--- What stands after the reads of the first file of a command.
-pub record Tail (from : Slot) (c : Command) (rest : List Did) : Type 0 where
-  pub opens : (openings rest ≡ []) ⊎ (openings rest ≡ trace_files c)
-  pub makes : (creations rest ≡ []) ⊎ (creations rest ≡ made_files c)
-  pub unread : Each (IsNoRead from) rest
-  pub limits : (at : Slot) → same_slot from at ≡ false → AtReads at (λ before. IsNotPast (most_of at) (length (taken at before))) rest
-  pub ends : StopsAtEnds rest
-  pub pieces : ReadsPieces rest
-  pub silent : Each (IsNoGift Err) rest
-
--- What is read whole first: the file of a slot, that may have so many bytes.
-pub record FirstFile : Type 0 where
-  pub from : Slot
-  pub most : ℕ
-  pub limit : most_of from ≡ Some most
-  pub before_trace : same_slot from Trace ≡ false
-
-abbrev pub spec_file : FirstFile
-spec_file = record { from = Spec; most = MOST_SOURCE_BYTES; limit = refl; before_trace = refl }
-
-module _ (file : FirstFile) (name : List ℕ) (reads : List Did) (r : ReadsFile file.from file.most reads) where
-  abbrev at : Slot
-  at = file.from
-
-  -- the file, opened and read
-  abbrev front : List Did
-  front = Opened at name ∷ reads
-
-  at_itself : same_slot at at ≡ true
-  at_itself = same_slot_itself at
-
-  front_no_read : (from : Slot) → same_slot at from ≡ false → Each (IsNoRead from) front
-  front_no_read from other = (tt, each_take (IsNoRead from) at (λ bytes short. other) other reads r.only)
-
-  pub front_no_trace : Each (IsNoRead Trace) front
-  front_no_trace = front_no_read Trace file.before_trace
-
-  pub front_no_gift : (to : Channel) → Each (IsNoGift to) front
-  front_no_gift to = (tt, each_take (IsNoGift to) at (λ bytes short. tt) tt reads r.only)
-
-  transfers : Each IsTransfer reads
-  transfers = each_take IsTransfer at (λ bytes short. tt) tt reads r.only
-
-  front_pieces : Each (IsWithin MOST_PIECE_BYTES) front
-  front_pieces = (tt, each_take (IsWithin MOST_PIECE_BYTES) at (λ bytes short. short) tt reads r.only)
-
-  front_reads : AtReads at (MayReadFile at file.most) front
-  front_reads = at_after at (MayReadFile at file.most) (MayReadFile at file.most) (Opened at name ∷ []) reads (tt, tt) (λ less h. record { unended = h.unended; within = h.within }) r.reads
+module _ (c : Command) (files : List (Slot × List ℕ)) (front : List Did) (f : Front c files front) where
+  pub front_unmade : creations front ≡ []
+  front_unmade = unmade_none front f.unmade
 
   -- the openings of the front and of what is after it
-  pub front_openings : (rest : List Did) → openings (front ++ rest) ≡ (at, name) ∷ openings rest
-  front_openings rest = ap (λ (l : List (Slot × List ℕ)). (at, name) ∷ l) (openings-append reads rest ∙ ap (λ (l : List (Slot × List ℕ)). l ++ openings rest) (openings_none reads transfers))
+  pub front_openings : (rest : List Did) → openings (front ++ rest) ≡ files ++ openings rest
+  front_openings rest = openings-append front rest ∙ ap (λ (l : List (Slot × List ℕ)). l ++ openings rest) f.opens
 
   pub front_creations : (rest : List Did) → creations (front ++ rest) ≡ creations rest
-  front_creations rest = creations-append reads rest ∙ ap (λ (l : List (Channel × List ℕ)). l ++ creations rest) (creations_none reads transfers)
+  front_creations rest = creations-append front rest ∙ ap (λ (l : List (Channel × List ℕ)). l ++ creations rest) front_unmade
 
-  -- and no creation
-  no_creation_front : Each (λ did. IsCreation did → ⊥) front
-  no_creation_front = ((λ (no : ⊥). no), no_creation_in reads transfers)
+  pub front_given : (to : Channel) (rest : List Did) → given to (front ++ rest) ≡ given to rest
+  front_given to rest = given_after to front rest (f.ungiven to)
 
-  -- no opening of another slot stands in the front
-  no_opening_front : (from : Slot) → same_slot at from ≡ false → Each (λ did. IsOpening from did → ⊥) front
-  no_opening_front from other = ((λ (same : same_slot at from ≡ true). let bad : false ≡ true = sym other ∙ same in cc), no_opening_in from reads transfers)
+  pub front_silent : (to : Channel) → (seen front).given to ≡ []
+  front_silent to = nothing_given front to (f.ungiven to)
 
-  -- no read of the front follows the end of its file
-  front_ends : (from : Slot) → StopsAtEnd from front
-  front_ends =
-      by_slot at (λ from. StopsAtEnd from front)
-      (at_weaker (IsRead at) (MayReadFile at file.most) (λ before. ended at before ≡ false) front (λ before h. h.unended) front_reads)
-      (λ from other. at_no_read from (λ before. ended from before ≡ false) front (front_no_read from other))
+  -- the files are whole where nothing more of them is read
+  pub whole_now : (own : Slot) → AreApart own files → (rest : List Did) → ReadsOnly own rest → AreWhole files (seen (front ++ rest))
+  whole_now own apart rest only = whole_on own files apart front rest only f.whole
 
-  -- nor of what is after it
-  ends_after_front : (rest : List Did) → Each (IsNoRead at) rest → StopsAtEnds rest → (from : Slot) → StopsAtEnd from (front ++ rest)
-  ends_after_front rest unread ends =
-      by_slot at (λ from. StopsAtEnd from (front ++ rest)) (at_more at (λ before. ended at before ≡ false) front rest (front_ends at) unread)
-      (λ from other. stops_after from front rest (front_no_read from other) (ends from))
+  whole_along : (own : Slot) → AreApart own files → (rest : List Did) → ReadsOnly own rest → AtAll (λ less. AreWhole files (seen (front ++ less))) rest
+  whole_along own apart rest only less entry = whole_now own apart less (λ at other. at_each (IsNoRead at) rest (only at other) less entry)
 
-  -- no read of the front follows once more was taken than may be
-  front_limit : AtReads at (λ before. IsNotPast (most_of at) (length (taken at before))) front
-  front_limit =
-      at_weaker (IsRead at) (MayReadFile at file.most) (λ before. IsNotPast (most_of at) (length (taken at before))) front
-      (λ before h. subst (λ (m : Option ℕ). IsNotPast m (length (taken at before))) (sym file.limit) h.within) front_reads
+  -- nothing is read after the front
+  pub then_nothing : (rest : List Did) → ReadsNothing rest → IsOrderly c (front ++ rest)
+  then_nothing rest r = record {
+    in_turn = record {
+      opens = λ from. at_join (IsOpening from) (MayOpen (Some c) from) front rest (f.orderly.in_turn.opens from) (at_not (IsOpening from) (λ less. MayOpen (Some c) from (front ++ less)) rest (r.unopened from));
+      reads = λ from. at_more from (λ before. IsTurn (Some c) from (seen before)) front rest (f.orderly.in_turn.reads from) (r.unread from);
+    };
+    ends = λ from. at_more from (λ before. ended from before ≡ false) front rest (f.orderly.ends from) (r.unread from);
+    limits = λ from. at_more from (IsWithinAt from) front rest (f.orderly.limits from) (r.unread from);
+    pieces = Each-append (IsWithin MOST_PIECE_BYTES) front rest f.orderly.pieces r.pieces;
+    stops = at_each_join IsDone front rest f.done r.stops;
+    silent = Each-append (IsNoGift Err) front rest f.orderly.silent r.silent;
+  }
 
-  abbrev IsWithinAt : Slot → List Did → Type 0
-  IsWithinAt from before = IsNotPast (most_of from) (length (taken from before))
+  -- another file is read after the front
+  module _ (at : Slot) (name : List ℕ) (apart : AreApart at files) (more : List (Slot × List ℕ)) (asked : opened_at at_work c ≡ files ++ (at, name) ∷ more) where
+    turn_at : (x : Seen) → AreWhole files x → IsTurn (Some c) at x
+    turn_at x w = subst (λ (l : List (Slot × List ℕ)). AreWholeBefore at l x) (sym asked) (turn_of at name files more x w)
 
-  limits_after_front : (rest : List Did) → Each (IsNoRead at) rest → ((from : Slot) → same_slot at from ≡ false → AtReads from (IsWithinAt from) rest) → (from : Slot) → AtReads from (IsWithinAt from) (front ++ rest)
-  limits_after_front rest unread limits =
-      by_slot at (λ from. AtReads from (IsWithinAt from) (front ++ rest)) (at_more at (IsWithinAt at) front rest front_limit unread)
-      (λ from other. at_after from (IsWithinAt from) (IsWithinAt from) front rest (front_no_read from other)
-      (λ less h. subst (λ (l : List ℕ). IsNotPast (most_of from) (length l)) (sym (taken_after from front less (front_no_read from other))) h) (limits from other))
+    -- entries of one kind stand in turn after the front
+    in_turn_after : (Q : Slot → Did → Type 0) (rest : List Did) → ReadsOnly at rest → ((from : Slot) → same_slot at from ≡ false → Each (λ did. Q from did → ⊥) rest)
+        → (from : Slot) → AtEntries (Q from) (λ less. IsTurn (Some c) from (seen (front ++ less))) rest
+    in_turn_after Q rest only none =
+        by_slot at (λ from. AtEntries (Q from) (λ less. IsTurn (Some c) from (seen (front ++ less))) rest)
+        (at_weaker (Q at) (λ less. AreWhole files (seen (front ++ less))) (λ less. IsTurn (Some c) at (seen (front ++ less))) rest (λ less w. turn_at (seen (front ++ less)) w)
+        (at_fewer IsAny (Q at) (λ less. AreWhole files (seen (front ++ less))) rest (λ did is. tt) (whole_along at apart rest only)))
+        (λ from other. at_not (Q from) (λ less. IsTurn (Some c) from (seen (front ++ less))) rest (none from other))
 
-  -- nothing follows a call that failed
-  pub stops_front : StopsAtFailure front
-  stops_front = at_each_join IsDone (Opened at name ∷ []) reads (tt, tt) r.stops
+    opens_then : (opened : List (Slot × List ℕ)) → (opened ≡ []) ⊎ (opened ≡ (at, name) ∷ []) → Begins opened ((at, name) ∷ more)
+    opens_then opened (inl is) = record { rest = (at, name) ∷ more; is = ap (λ (l : List (Slot × List ℕ)). l ++ (at, name) ∷ more) (sym is) }
+    opens_then opened (inr is) = record { rest = more; is = ap (λ (l : List (Slot × List ℕ)). l ++ more) (sym is) }
 
-  module _ (source : List ℕ) (g : GivesFile at file.most source reads) where
-    pub stops_after_front : (rest : List Did) → StopsAtFailure rest → StopsAtFailure (front ++ rest)
-    stops_after_front rest stops = at_each_join IsDone front rest (tt, g.done) stops
+    -- what is opened is asked for
+    pub opens_next : (rest : List Did) → (openings rest ≡ []) ⊎ (openings rest ≡ (at, name) ∷ []) → OpensAsAsked (Some c) (front ++ rest)
+    opens_next rest is =
+        subst (λ (l : List (Slot × List ℕ)). Begins (openings (front ++ rest)) l) (sym asked)
+        (subst (λ (l : List (Slot × List ℕ)). Begins l (files ++ (at, name) ∷ more)) (sym (front_openings rest)) (begins_after files (openings rest) ((at, name) ∷ more) (opens_then (openings rest) is)))
 
-    whole_front : HasWhole at (seen front)
-    whole_front = elim g.whole [
-      | inl is ↦ inl is
-      | inr past ↦ inr (subst (λ (m : Option ℕ). IsPast m (length (taken at front))) (sym file.limit) past)
-    ]
+    -- what was read before it was judged
+    module _ (judged : IsJudged (Some c) at (seen front)) where
+      judged_first : (less : List Did) → less ≡ [] → IsJudged (Some c) at (seen (front ++ less))
+      judged_first less none = subst (λ (l : List Did). IsJudged (Some c) at (seen l)) (sym (ap (λ (l : List Did). front ++ l) none ∙ append-nil front)) judged
 
-    -- the file is whole where nothing more of it is read
-    pub whole_now : (rest : List Did) → Each (IsNoRead at) rest → HasWhole at (seen (front ++ rest))
-    whole_now rest none = whole_more at front rest none whole_front
+      judged_after : (rest : List Did) → ReadsSlot at rest → (from : Slot) → AtEntries (IsOpening from) (λ less. IsJudged (Some c) from (seen (front ++ less))) rest
+      judged_after rest r =
+          by_slot at (λ from. AtEntries (IsOpening from) (λ less. IsJudged (Some c) from (seen (front ++ less))) rest)
+          (at_weaker (IsOpening at) (λ less. less ≡ []) (λ less. IsJudged (Some c) at (seen (front ++ less))) rest judged_first r.opens_first)
+          (λ from other. at_not (IsOpening from) (λ less. IsJudged (Some c) from (seen (front ++ less))) rest (r.opens_only from other))
 
-    pub whole_after : (rest : List Did) → Each (IsNoRead at) rest → AtAll (λ less. HasWhole at (seen (front ++ less))) rest
-    whole_after rest none =
-        at_weaker IsAny (Each (IsNoRead at)) (λ less. HasWhole at (seen (front ++ less))) rest whole_now
-        (at_each (IsNoRead at) rest none)
+      pub then_slot : (rest : List Did) → ReadsSlot at rest → IsOrderly c (front ++ rest)
+      then_slot rest r = record {
+        in_turn = record {
+          opens = λ from. at_join (IsOpening from) (MayOpen (Some c) from) front rest (f.orderly.in_turn.opens from)
+              (λ less entry. (in_turn_after IsOpening rest r.only r.opens_only from less entry, judged_after rest r from less entry));
+          reads = λ from. at_join (IsRead from) (λ before. IsTurn (Some c) from (seen before)) front rest (f.orderly.in_turn.reads from)
+              (in_turn_after IsRead rest r.only (λ from other. each_more (IsNoRead from) (λ did. IsRead from did → ⊥) (not_read from) rest (r.only from other)) from);
+        };
+        ends = by_slot at (λ from. StopsAtEnd from (front ++ rest)) (stops_after at front rest (f.unread at apart) r.ends)
+            (λ from other. at_more from (λ before. ended from before ≡ false) front rest (f.orderly.ends from) (r.only from other));
+        limits = by_slot at (λ from. AtReads from (IsWithinAt from) (front ++ rest))
+            (at_after at (IsWithinAt at) (IsWithinAt at) front rest (f.unread at apart)
+            (λ less h. subst (λ (l : List ℕ). IsNotPast (most_of at) (length l)) (sym (taken_after at front less (f.unread at apart))) h) r.limits)
+            (λ from other. at_more from (IsWithinAt from) front rest (f.orderly.limits from) (r.only from other));
+        pieces = Each-append (IsWithin MOST_PIECE_BYTES) front rest f.orderly.pieces r.pieces;
+        stops = at_each_join IsDone front rest f.done r.stops;
+        silent = Each-append (IsNoGift Err) front rest f.orderly.silent r.silent;
+      }
 
-    -- what was taken of it
-    pub taken_now : (rest : List Did) → Each (IsNoRead at) rest → taken at (front ++ rest) ≡ source
-    taken_now rest none = taken_before at front rest none ∙ g.bytes_are
+      module _ (most : ℕ) (limit : most_of at ≡ Some most) (aside : same_slot at Trace ≡ false) (before_trace : AreApart Trace files) where
+        -- the file is read, as far as it comes
+        pub shows_reading : (part : List Did) → ReadsName at most name part → Shows (Some c) (front ++ part)
+        shows_reading part reads =
+            let one = one_file at most limit name part reads in
+            shows_quiet c (front ++ part) (opens_next part one.opens) (Each-append (λ did. IsCreation did → ⊥) front part f.unmade one.unmade)
+            (λ to. Each-append (IsNoGift to) front part (f.ungiven to) (one.ungiven to)) (Each-append (IsNoRead Trace) front part (f.unread Trace before_trace) (one.reads.only Trace aside))
+            (then_slot part one.reads)
 
-  module _ (c : Command) (files_are : program_files c ≡ (at, name) ∷ []) where
-    opens_so : (opened : List (Slot × List ℕ)) → (opened ≡ []) ⊎ (opened ≡ trace_files c) → Begins ((at, name) ∷ opened) ((at, name) ∷ trace_files c)
-    opens_so opened (inl is) = record { rest = trace_files c; is = ap (λ (l : List (Slot × List ℕ)). ((at, name) ∷ l) ++ trace_files c) (sym is) }
-    opens_so opened (inr is) = record { rest = []; is = ap (λ (l : List (Slot × List ℕ)). (at, name) ∷ l) (sym is) ∙ sym (append-nil ((at, name) ∷ opened)) }
+      module _ (most : ℕ) (limit : most_of at ≡ Some most) (reads : List Did) (r : ReadsFile at most reads) (bytes : List ℕ) (g : GivesFile at most bytes reads) where
+        abbrev whole_file : List Did
+        whole_file = Opened at name ∷ reads
 
-    opens_asked : (opened : List (Slot × List ℕ)) → (opened ≡ []) ⊎ (opened ≡ trace_files c) → Begins ((at, name) ∷ opened) (program_files c ++ trace_files c)
-    opens_asked opened is = subst (λ (l : List (Slot × List ℕ)). Begins ((at, name) ∷ opened) (l ++ trace_files c)) (sym files_are) (opens_so opened is)
+        file_whole : HasWhole at (seen (front ++ whole_file))
+        file_whole = elim g.whole [
+          | inl is ↦ inl (ended_after at front whole_file (f.unread at apart) ∙ is)
+          | inr past ↦ inr (subst (λ (l : List ℕ). IsPast (most_of at) (length l)) (sym (taken_after at front whole_file (f.unread at apart)))
+              (subst (λ (m : Option ℕ). IsPast m (length (taken at whole_file))) (sym limit) past))
+        ]
+
+        -- the file was read whole, too
+        pub then_file : Front c (files ++ (at, name) ∷ []) (front ++ whole_file)
+        then_file = let one = reading_file at most limit name reads r in record {
+          opens = front_openings whole_file ∙ ap (λ (l : List (Slot × List ℕ)). files ++ l) (file_opens at most limit name reads r);
+          unmade = Each-append (λ did. IsCreation did → ⊥) front whole_file f.unmade one.unmade;
+          ungiven = λ to. Each-append (IsNoGift to) front whole_file (f.ungiven to) (one.ungiven to);
+          unread = λ from others. let parts = apart_parts from files ((at, name) ∷ []) others in Each-append (IsNoRead from) front whole_file (f.unread from parts.0) (one.reads.only from (apart_back from at parts.1.0));
+          unopened = λ from others. let parts = apart_parts from files ((at, name) ∷ []) others in
+              Each-append (λ did. IsOpening from did → ⊥) front whole_file (f.unopened from parts.0) (one.reads.opens_only from (apart_back from at parts.1.0));
+          done = Each-append IsDone front whole_file f.done (tt, g.done);
+          whole = whole_parts (seen (front ++ whole_file)) files ((at, name) ∷ []) (whole_now at apart whole_file one.reads.only) (file_whole, tt);
+          orderly = then_slot whole_file one.reads;
+        }
+
+  -- ---- what is done after all files that are read whole
+  module _ (before_trace : AreApart Trace files) (all : files ≡ whole_at at_work c) where
+    -- nothing
+    pub shows_front : Shows (Some c) front
+    shows_front =
+        shows_quiet c front (record { rest = trace_files c; is = ap (λ (l : List (Slot × List ℕ)). l ++ trace_files c) (sym (f.opens ∙ all)) }) f.unmade f.ungiven (f.unread Trace before_trace) f.orderly
+
+    all_whole : (x : Seen) → AreWhole files x → IsAllWhole (Some c) x
+    all_whole x w = subst (λ (l : List (Slot × List ℕ)). AreWhole l x) all w
+
+    all_whole_along : (rest : List Did) → ReadsOnly Trace rest → AtAll (λ less. IsAllWhole (Some c) (seen (front ++ less))) rest
+    all_whole_along rest only less entry = all_whole (seen (front ++ less)) (whole_along Trace before_trace rest only less entry)
 
     makes_asked : (made : List (Channel × List ℕ)) → (made ≡ []) ⊎ (made ≡ made_files c) → Begins made (made_files c)
     makes_asked made (inl is) = record { rest = made_files c; is = ap (λ (l : List (Channel × List ℕ)). l ++ made_files c) (sym is) }
     makes_asked made (inr is) = record { rest = []; is = sym is ∙ sym (append-nil made) }
 
-    pub all_whole : (x : Seen) → HasWhole at x → AreWhole (program_files c) x
-    all_whole x w = subst (λ (l : List (Slot × List ℕ)). AreWhole l x) (sym files_are) (w, tt)
-
-    -- entries of one kind stand in turn in what is after the front, as each does in turn of the specification
-    abbrev AreInTurn : (Slot → Did → Type 0) → List Did → Type 0
-    AreInTurn Q rest = (from : Slot) → same_slot at from ≡ false → AtEntries (Q from) (λ less. IsTurn (Some c) from (seen (front ++ less))) rest
-
-    spec_turn : (x : Seen) → IsTurn (Some c) at x
-    spec_turn x = subst (λ (l : List (Slot × List ℕ)). AreWholeBefore at (l ++ trace_files c) x) (sym files_are) (inl at_itself)
-
-    in_turn_after : (Q : Slot → Did → Type 0) (rest : List Did) → ((from : Slot) → same_slot at from ≡ false → Each (λ did. Q from did → ⊥) front) → AreInTurn Q rest
-        → (from : Slot) → AtEntries (Q from) (λ before. IsTurn (Some c) from (seen before)) (front ++ rest)
-    in_turn_after Q rest none turns =
-        of_each at Q (λ from before. IsTurn (Some c) from (seen before)) (front ++ rest) (λ before. spec_turn (seen before))
-        (λ from other. at_join (Q from) (λ before. IsTurn (Some c) from (seen before)) front rest (at_not (Q from) (λ before. IsTurn (Some c) from (seen before)) front (none from other)) (turns from other))
-
-    -- none stands there
-    pub none_in_turn : (Q : Slot → Did → Type 0) (rest : List Did) → ((from : Slot) → Each (λ did. Q from did → ⊥) rest) → AreInTurn Q rest
-    none_in_turn Q rest none from other = at_not (Q from) (λ less. IsTurn (Some c) from (seen (front ++ less))) rest (none from)
-
-    pub no_reads_in_turn : (rest : List Did) → ((from : Slot) → Each (IsNoRead from) rest) → AreInTurn IsRead rest
-    no_reads_in_turn rest none = none_in_turn IsRead rest (λ from. each_more (IsNoRead from) (λ did. IsRead from did → ⊥) (not_read from) rest (none from))
-
-    -- those of the trace stand there alone
-    pub trace_in_turn : (Q : Slot → Did → Type 0) (rest : List Did) (trace : List ℕ) → trace_files c ≡ (Trace, trace) ∷ [] → AtAll (λ less. HasWhole at (seen (front ++ less))) rest
-        → ((from : Slot) → same_slot Trace from ≡ false → Each (λ did. Q from did → ⊥) rest) → AreInTurn Q rest
-    trace_in_turn Q rest trace is is_whole none from other = elim (which_slot Trace from) [
-      | inl same ↦ subst (λ (s : Slot). AtEntries (Q s) (λ less. IsTurn (Some c) s (seen (front ++ less))) rest) same
-          (at_weaker (Q Trace) (λ less. HasWhole at (seen (front ++ less))) (λ less. IsTurn (Some c) Trace (seen (front ++ less))) rest
-          (λ less w. subst (λ (l : List (Slot × List ℕ)). AreWholeBefore Trace (l ++ trace_files c) (seen (front ++ less))) (sym files_are)
-          (subst (λ (l : List (Slot × List ℕ)). AreWholeBefore Trace ((at, name) ∷ l) (seen (front ++ less))) (sym is) (inr (w, inl refl))))
-          (at_fewer IsAny (Q Trace) (λ less. HasWhole at (seen (front ++ less))) rest (λ did is. tt) is_whole))
-      | inr apart ↦ at_not (Q from) (λ less. IsTurn (Some c) from (seen (front ++ less))) rest (none from apart)
-    ]
-
-    pub shows_tail : (rest : List Did) → Tail at c rest → AtEntries IsCreation (λ less. MayMake (Some c) (seen (front ++ less))) rest → AreInTurn IsOpening rest → AreInTurn IsRead rest
-        → AtAll (λ less. HasWhole at (seen (front ++ less))) rest → StopsAtFailure (front ++ rest)
-        → AtReads Trace (λ less. IsDueAtRead (Some c) (seen (front ++ less))) rest
+    -- the work
+    pub shows_tail : (rest : List Did) → ReadsOnly Trace rest → IsOrderly c (front ++ rest) → OpensAsAsked (Some c) (front ++ rest) → (creations rest ≡ []) ⊎ (creations rest ≡ made_files c)
+        → AtEntries IsCreation (λ less. MayMake (Some c) (seen (front ++ less))) rest → AtReads Trace (λ less. IsDueAtRead (Some c) (seen (front ++ less))) rest
         → AtReads Trace (λ less. GoesOnAtRead (Some c) (seen (front ++ less))) rest → IsPartlyDue (Some c) (seen (front ++ rest)) → Shows (Some c) (front ++ rest)
-    shows_tail rest tail may_make openings_turn reads_turn is_whole stops due goes_on partly = record {
-      opens = subst (λ (l : List (Slot × List ℕ)). Begins l (program_files c ++ trace_files c)) (sym (front_openings rest)) (opens_asked (openings rest) tail.opens);
-      makes = subst (λ (l : List (Channel × List ℕ)). Begins l (made_files c)) (sym (front_creations rest)) (makes_asked (creations rest) tail.makes);
-      makes_last = at_join IsCreation (λ before. IsAllWhole (Some c) (seen before) × MayMake (Some c) (seen before)) front rest (none_made_last (Some c) front no_creation_front)
-          (λ less entry. (all_whole (seen (front ++ less)) (at_fewer IsAny IsCreation (λ less. HasWhole at (seen (front ++ less))) rest (λ did is. tt) is_whole less entry), may_make less entry));
-      in_turn = record {
-        opens = in_turn_after IsOpening rest no_opening_front openings_turn;
-        reads = in_turn_after IsRead rest (λ from other. each_more (IsNoRead from) (λ did. IsRead from did → ⊥) (not_read from) front (front_no_read from other)) reads_turn;
-      };
+    shows_tail rest only orderly opens makes may_make due goes_on partly = let along = all_whole_along rest only in record {
+      opens = opens;
+      makes = subst (λ (l : List (Channel × List ℕ)). Begins l (made_files c)) (sym (front_creations rest)) (makes_asked (creations rest) makes);
+      makes_last = at_join IsCreation (λ before. IsAllWhole (Some c) (seen before) × MayMake (Some c) (seen before)) front rest (none_made_last (Some c) front f.unmade)
+          (λ less entry. (at_fewer IsAny IsCreation (λ less. IsAllWhole (Some c) (seen (front ++ less))) rest (λ did is. tt) along less entry, may_make less entry));
+      in_turn = orderly.in_turn;
       writes_last = λ to other. at_join (IsGift to) (λ before. IsAllWhole (Some c) (seen before)) front rest
-          (at_not (IsGift to) (λ before. IsAllWhole (Some c) (seen before)) front (each_more (IsNoGift to) (λ did. IsGift to did → ⊥) (not_gift to) front (front_no_gift to)))
-          (at_weaker (IsGift to) (λ less. HasWhole at (seen (front ++ less))) (λ less. IsAllWhole (Some c) (seen (front ++ less))) rest (λ less w. all_whole (seen (front ++ less)) w)
-          (at_fewer IsAny (IsGift to) (λ less. HasWhole at (seen (front ++ less))) rest (λ did is. tt) is_whole));
-      ends = ends_after_front rest tail.unread tail.ends;
-      limits = limits_after_front rest tail.unread tail.limits;
-      pieces = Each-append (IsWithin MOST_PIECE_BYTES) front rest front_pieces tail.pieces;
-      stops = stops;
-      due = at_join (IsRead Trace) (λ before. IsDueAtRead (Some c) (seen before)) front rest (at_no_read Trace _ front front_no_trace) due;
-      goes_on = at_join (IsRead Trace) (λ before. GoesOnAtRead (Some c) (seen before)) front rest (at_no_read Trace _ front front_no_trace) goes_on;
+          (at_not (IsGift to) (λ before. IsAllWhole (Some c) (seen before)) front (each_more (IsNoGift to) (λ did. IsGift to did → ⊥) (not_gift to) front (f.ungiven to)))
+          (at_fewer IsAny (IsGift to) (λ less. IsAllWhole (Some c) (seen (front ++ less))) rest (λ did is. tt) along);
+      ends = orderly.ends;
+      limits = orderly.limits;
+      pieces = orderly.pieces;
+      stops = orderly.stops;
+      due = at_join (IsRead Trace) (λ before. IsDueAtRead (Some c) (seen before)) front rest (at_no_read Trace _ front (f.unread Trace before_trace)) due;
+      goes_on = at_join (IsRead Trace) (λ before. GoesOnAtRead (Some c) (seen before)) front rest (at_no_read Trace _ front (f.unread Trace before_trace)) goes_on;
       partly = partly;
-      silent = Each-append (IsNoGift Err) front rest (front_no_gift Err) tail.silent;
+      silent = orderly.silent;
     }
 
-    -- nothing after it
-    nothing_after : Tail at c []
-    nothing_after = record {
-      opens = inl refl;
-      makes = inl refl;
-      unread = tt;
-      limits = λ from other. at_none (IsRead from) (IsWithinAt from);
-      ends = λ from. at_none (IsRead from) (λ before. ended from before ≡ false);
-      pieces = tt;
-      silent = tt;
-    }
+    -- the trace could not be opened
+    pub shows_no_trace : IsJudged (Some c) Trace (seen front) → (name : List ℕ) → opened_at at_work c ≡ files ++ (Trace, name) ∷ [] → Shows (Some c) (front ++ NotOpened Trace name ∷ [])
+    shows_no_trace judged name asked =
+        let rest = NotOpened Trace name ∷ [] in
+        shows_tail rest (λ at other. (tt, tt)) (then_slot Trace name before_trace [] asked judged rest (unopened_slot Trace name)) (opens_next Trace name before_trace [] asked rest (inr refl)) (inl refl)
+        (at_not IsCreation _ rest ((λ (no : ⊥). no), tt)) (at_no_read Trace _ rest (tt, tt)) (at_no_read Trace _ rest (tt, tt))
+        (λ to. inl (nothing_given (front ++ rest) to (Each-append (IsNoGift to) front rest (f.ungiven to) (tt, tt))))
 
-    pub shows_front : Shows (Some c) (front ++ [])
-    shows_front =
-        shows_tail [] nothing_after (at_none IsCreation (λ less. MayMake (Some c) (seen (front ++ less)))) (none_in_turn IsOpening [] (λ from. tt)) (no_reads_in_turn [] (λ from. tt)) (at_none IsAny _) (at_join IsAny (Each IsDone) front [] stops_front (at_none IsAny _)) (at_none (IsRead Trace) _)
-        (at_none (IsRead Trace) _) (λ to. inl (nothing_given (front ++ []) to (Each-append (IsNoGift to) front [] (front_no_gift to) tt)))
+-- the first file of a command, read whole
+pub first_front : (c : Command) (at : Slot) (most : ℕ) → most_of at ≡ Some most → (name : List ℕ) (more : List (Slot × List ℕ)) → opened_at at_work c ≡ (at, name) ∷ more
+    → IsJudged (Some c) at (seen []) → (reads : List Did) → ReadsFile at most reads → (bytes : List ℕ) → GivesFile at most bytes reads → Front c ((at, name) ∷ []) (Opened at name ∷ reads)
+first_front c at most limit name more asked judged reads r bytes g = then_file c [] [] (front_none c) at name tt more asked judged most limit reads r bytes g
+
+-- or as far as it comes
+pub shows_first : (c : Command) (at : Slot) (most : ℕ) → most_of at ≡ Some most → same_slot at Trace ≡ false → (name : List ℕ) (more : List (Slot × List ℕ)) → opened_at at_work c ≡ (at, name) ∷ more
+    → IsJudged (Some c) at (seen []) → (part : List Did) → ReadsName at most name part → Shows (Some c) part
+shows_first c at most limit aside name more asked judged part reads = shows_reading c [] [] (front_none c) at name tt more asked judged most limit aside tt part reads

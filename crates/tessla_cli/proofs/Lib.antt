@@ -1,9 +1,15 @@
 pub mod Reading
 pub mod Writing
+pub mod Saving
+pub mod Explaining
 pub mod Fronts
 pub mod Facts
 pub mod Loading
+pub mod Since
+pub mod RunFronts
 pub mod RunShows
+pub mod Questions
+pub mod WhyShows
 pub mod Shown
 pub mod Phases
 pub mod Printing
@@ -11,8 +17,10 @@ pub mod Counting
 pub mod Failing
 pub mod Refused
 pub mod RunStands
+pub mod WhyStands
 pub mod Told
 pub mod Exact
 pub mod Unseen
 pub mod SameRun
+pub mod HandedOn
 pub mod Completeness

@@ -1,5 +1,5 @@
 -- What runs, and what is known of it.
-use Rattle.std.proofs.Common.{◌≡◌, ◌⊎◌, inl, inr, ℕ, Bool, false, List, Option, Some, refl, sym, subst}
+use Rattle.std.proofs.Common.{◌≡◌, ◌⊎◌, inl, inr, ℕ, false, List, Some, refl, sym, subst}
 use Rattle.std.specs.Prelude.{◌≢◌}
 use Rattle.alias_rules.specs.Fine.{IsTakenPlan}
 use Rattle.code_check.specs.Checked.{IsChecked}
@@ -31,11 +31,11 @@ use Rattle.tessla_cli.specs.declared.ending.Ending.{Ending}
 use Rattle.tessla_cli.specs.declared.ending.Ending.TheVariants as ending
 use Rattle.tessla_cli.specs.Asked.{origin_file}
 use Rattle.tessla_cli.specs.Causes.{Refuses}
-use Rattle.tessla_cli.specs.Headline.{IsDueFrom, IsReadAs, OfRun}
+use Rattle.tessla_cli.specs.Headline.{IsDueFrom}
+use Rattle.tessla_cli.specs.Running.{IsReadAs, OfProgram}
 use Rattle.tessla_cli.specs.Stages.{most_of}
 use Rattle.tessla_cli.specs.Unseen.{ForRun}
 use Rattle.tessla_cli.specs.inner.RunPhases.{IsLoadedCode, IsProgram, most_from}
-use Rattle.tessla_cli.proofs.Fronts.{FirstFile}
 
 -- ---- the file
 pub limit_of : (from : Origin) → most_of (origin_file from).0 ≡ Some (most_from from)
@@ -50,8 +50,9 @@ pub trace_apart : (from : Origin) → same_slot Trace (origin_file from).0 ≡ f
 trace_apart (origin.Spec name) = refl
 trace_apart (origin.Code name) = refl
 
-abbrev pub first_of : Origin → FirstFile
-first_of from = record { from = (origin_file from).0; most = most_from from; limit = limit_of from; before_trace = other_slot from }
+pub state_apart : (from : Origin) → same_slot slot.State (origin_file from).0 ≡ false
+state_apart (origin.Spec name) = refl
+state_apart (origin.Code name) = refl
 
 -- ---- what comes of its bytes
 pub compiled_loads : (name source : List ℕ) (c : Code) → CompilesSomething source c.system → IsTakenPlan c.system c.in_place c.order → IsReady c.system → IsLoadedCode (origin.Spec name) source c
@@ -79,8 +80,12 @@ refusal_is (origin.Spec name) bytes ending.Done refused = absurd refused
 refusal_is (origin.Code name) bytes ending.Done refused = absurd refused
 refusal_is (origin.Spec name) bytes ending.Words refused = absurd refused
 refusal_is (origin.Code name) bytes ending.Words refused = absurd refused
+refusal_is (origin.Spec name) bytes (ending.State fault) refused = absurd refused
+refusal_is (origin.Code name) bytes (ending.State fault) refused = absurd refused
 refusal_is (origin.Spec name) bytes (ending.NoOutput output) refused = absurd refused
 refusal_is (origin.Code name) bytes (ending.NoOutput output) refused = absurd refused
+refusal_is (origin.Spec name) bytes (ending.NoEvent output t) refused = absurd refused
+refusal_is (origin.Code name) bytes (ending.NoEvent output t) refused = absurd refused
 refusal_is (origin.Spec name) bytes (ending.Trace fault) refused = absurd refused
 refusal_is (origin.Code name) bytes (ending.Trace fault) refused = absurd refused
 refusal_is (origin.Spec name) bytes (ending.Fault t k p) refused = absurd refused
@@ -100,7 +105,7 @@ module _ (bytes : List ℕ) where
   can_be_run (origin.Code name) (specified items s) is = absurd is
 
   module _ (x : Seen) where
-    pub of_program : (from : Origin) (p : Program) → IsProgram from bytes p → x.taken (origin_file from).0 ≡ bytes → (P : Program → Type 0) → P p → OfRun from x P
+    pub of_program : (from : Origin) (p : Program) → IsProgram from bytes p → x.taken (origin_file from).0 ≡ bytes → (P : Program → Type 0) → P p → OfProgram from x P
     of_program (origin.Spec name) (specified items s) is same P holds = record { items = items; system = s; compiled = subst (λ (l : List ℕ). Compiles l items s) (sym same) is; holds = holds }
     of_program (origin.Code name) (coded c) is same P holds = record { code = c; read = subst (λ (l : List ℕ). IsReadAs l c) (sym same) is; holds = holds }
     of_program (origin.Spec name) (coded c) is same P holds = absurd is
@@ -128,7 +133,7 @@ module _ (x : Seen) where
     pub one : P program
     pub other : Q program
 
-  pub one_program : (from : Origin) (P Q : Program → Type 0) → OfRun from x P → OfRun from x Q → OfOne P Q
+  pub one_program : (from : Origin) (P Q : Program → Type 0) → OfProgram from x P → OfProgram from x Q → OfOne P Q
   one_program (origin.Spec name) P Q a b =
       let one = one_is_compiled (x.taken Spec) b.items a.items b.system a.system b.compiled a.compiled in record {
         program = specified a.items a.system;
@@ -144,18 +149,18 @@ module _ (x : Seen) where
   }
 
   -- the same fact, or another about the same program
-  pub of_run_weaker : (from : Origin) (P Q : Program → Type 0) → ((p : Program) → CanBeRun p → P p → Q p) → OfRun from x P → OfRun from x Q
-  of_run_weaker (origin.Spec name) P Q says a = record { items = a.items; system = a.system; compiled = a.compiled; holds = says (specified a.items a.system) (x.taken Spec, a.compiled) a.holds }
-  of_run_weaker (origin.Code name) P Q says a = record { code = a.code; read = a.read; holds = says (coded a.code) (read_can_run (x.taken slot.Code) a.code a.read) a.holds }
+  pub of_program_weaker : (from : Origin) (P Q : Program → Type 0) → ((p : Program) → CanBeRun p → P p → Q p) → OfProgram from x P → OfProgram from x Q
+  of_program_weaker (origin.Spec name) P Q says a = record { items = a.items; system = a.system; compiled = a.compiled; holds = says (specified a.items a.system) (x.taken Spec, a.compiled) a.holds }
+  of_program_weaker (origin.Code name) P Q says a = record { code = a.code; read = a.read; holds = says (coded a.code) (read_can_run (x.taken slot.Code) a.code a.read) a.holds }
 
   -- What runs is not refused.
   code_runs : (c : Code) (fault : CodeFault) → IsReadAs (x.taken slot.Code) c → fault ≢ code_fault.Memory → IsReadFault (x.taken slot.Code) fault → ⊥
   code_runs c fault is other refused = other ((one_answer (x.taken slot.Code)).code_or_fault c fault is.spelled is.checked refused)
 
-  pub runs_unrefused : (from : Origin) (P : Program → Type 0) (by : Ending) → OfRun from x P → Refuses from (x.taken (origin_file from).0) by → ⊥
+  pub runs_unrefused : (from : Origin) (P : Program → Type 0) (by : Ending) → OfProgram from x P → Refuses from (x.taken (origin_file from).0) by → ⊥
   runs_unrefused from P by a refused = go from (refusal_is from (x.taken (origin_file from).0) by refused) a refused
     where
-      go : (from : Origin) → IsRefusal by → OfRun from x P → Refuses from (x.taken (origin_file from).0) by → ⊥
+      go : (from : Origin) → IsRefusal by → OfProgram from x P → Refuses from (x.taken (origin_file from).0) by → ⊥
       go (origin.Spec name) (inl (fault, is)) a refused = refused_compiles_none (x.taken Spec) fault a.items a.system (subst (Refuses (origin.Spec name) (x.taken Spec)) is refused) a.compiled
       go (origin.Spec name) (inr (fault, is)) a refused = subst (Refuses (origin.Spec name) (x.taken Spec)) is refused
       go (origin.Code name) (inl (fault, is)) a refused = subst (Refuses (origin.Code name) (x.taken slot.Code)) is refused

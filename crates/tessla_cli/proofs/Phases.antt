@@ -1,5 +1,5 @@
 -- A file is read, and then something is done with it.
-use Rattle.std.proofs.Common.{ℕ, List, ◌∷◌, ◌++◌}
+use Rattle.std.proofs.Common.{ℕ, List, ◌++◌}
 use Rattle.tsl_world.specs.declared.outside.Did.{Did}
 use Rattle.tsl_world.specs.declared.outside.Slot.{Slot}
 use Rattle.tsl_world.specs.declared.outside.Slot.TheVariants.{Spec}

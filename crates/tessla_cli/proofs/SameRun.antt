@@ -1,21 +1,17 @@
 -- Code that is read of a file which was written of a specification means what that does.
-use Rattle.std.proofs.Common.{◌≡◌, ℕ, Bool, List, refl, sym, ◌∙◌, ap, subst}
+use Rattle.std.proofs.Common.{◌≡◌, ℕ, Bool, List, sym, ◌∙◌, ap, subst}
 use Rattle.std.specs.Prelude.{IsTrue}
 use Rattle.alike_systems.specs.Alike.{AreAlike}
 use Rattle.alike_systems.proofs.Reading.{alike_read_alike}
 use Rattle.alike_systems.proofs.Saying.{alike_either_way, alike_say_the_same, solves_too}
-use Rattle.code_file.specs.Form.{IsForm}
-use Rattle.code_file.specs.Spelling.{spelling}
 use Rattle.compiled_code.specs.Spelled.{IsLikeCode}
 use Rattle.compiled_code.proofs.OneSpelling.{one_spelling_is_alike}
-use Rattle.compiled_meaning.specs.Compiled.{Compiles}
 use Rattle.flat_core.specs.Case.{Streams}
 use Rattle.flat_core.specs.Ending.{EndsAtBound, EndsAtLimit, EndsInFault}
 use Rattle.flat_core.specs.Line.{Line, inputs_of}
 use Rattle.flat_core.specs.Solution.{Solves}
 use Rattle.flat_core.specs.System.{System, runs}
 use Rattle.flat_core.specs.Text.{due_text}
-use Rattle.register_code.specs.Code.{Code}
 use Rattle.tessla_cli.specs.inner.FileLaws.{FilesRunAsMeant}
 use Rattle.trace_run.proofs.Meaning.{due_meant, ends_meant}
 use Rattle.trace_monitor.specs.declared.ending.RunEnding.{RunEnding}

@@ -1,14 +1,10 @@
 -- What a run shows and how it ends, after the line that tells it.
-use Rattle.std.proofs.Common.{◌≡◌, ◌≢◌, ◌⊎◌, inl, inr, ℕ, Bool, true, false, List, [], ◌∷◌, ◌++◌, refl, sym, ◌∙◌, ap, subst, arith, Option, Some, None, IsTrue}
-use Rattle.std.proofs.lemmas.Bool.{true≢false}
-use Rattle.std.proofs.lemmas.List.{append-nil}
+use Rattle.std.proofs.Common.{◌≡◌, ◌≢◌, ◌⊎◌, inl, inr, ℕ, Bool, false, List, [], ◌∷◌, ◌++◌, refl, sym, ◌∙◌, ap, subst, arith, Option, Some, None}
 use Rattle.command_words.specs.declared.command.Command.{Command}
 use Rattle.command_words.specs.declared.command.Command.TheVariants as command
 use Rattle.command_words.specs.declared.command.Form.{Form}
 use Rattle.command_words.specs.declared.command.Workload.{Workload}
 use Rattle.sample_trace.specs.Trace.{trace_text}
-use Rattle.code_file.specs.declared.fault.CodeFault.{CodeFault}
-use Rattle.source_rules.specs.declared.fault.SpecFault.{SpecFault}
 use Rattle.compiled_meaning.specs.Compiled.{Compiles, IsRefusedBy}
 use Rattle.trace_monitor.specs.declared.ending.RunEnding.{RunEnding}
 use Rattle.trace_monitor.specs.declared.ending.RunEnding.TheVariants as run
@@ -18,13 +14,12 @@ use Rattle.tsl_world.specs.declared.outside.Did.TheVariants.{Opened}
 use Rattle.tsl_world.specs.declared.outside.Slot.{Slot}
 use Rattle.tsl_world.specs.declared.outside.Slot.TheVariants.{Spec, Trace}
 use Rattle.tsl_world.specs.declared.outside.Channel.{Channel}
-use Rattle.tsl_world.specs.declared.outside.Channel.TheVariants as channel
 use Rattle.tsl_world.specs.declared.outside.Channel.TheVariants.{Out, Err}
-use Rattle.tsl_world.specs.Journal.{given, taken, ended, openings, creations, same_channel, AtEntries, IsAny, IsCreation, IsDone, IsNoFailedGift, IsNoRead, IsNoGift, IsOpening, IsTransfer, IsGift, Each, StopsAtFailure}
+use Rattle.tsl_world.specs.Journal.{given, ended, AtEntries, IsAny, IsCreation, IsDone, IsNoFailedGift, IsNoRead, IsNoGift, IsOpening, IsTransfer, IsGift, Each, StopsAtFailure}
 use Rattle.tsl_world.specs.Runs.{Grows}
 use Rattle.tsl_world.specs.Seen.{Seen, given_aside, seen}
 use Rattle.tsl_world.proofs.Journals.{given-append, Each-append, each_more}
-use Rattle.tsl_world.proofs.Untouched.{gift_elsewhere, gift_transfer, gifts_read_none, gifts_transfer, gifts_within, done_no_failed_gift, no_failed_gift, not_gift, same_channel_back, transfer_makes_none, transfer_opens_none, given_after, given_none, openings_before, creations_before, creations_none, openings_none}
+use Rattle.tsl_world.proofs.Untouched.{gift_elsewhere, gift_transfer, gifts_read_none, gifts_transfer, gifts_within, done_no_failed_gift, no_failed_gift, not_gift, same_channel_back, transfer_makes_none, transfer_opens_none, given_none, openings_before, creations_before, creations_none, openings_none}
 use Rattle.tsl_world.proofs.Runs.{grows_weaker}
 use Rattle.tsl_world.proofs.Telling.{seen_told}
 use Rattle.trace_run.proofs.Grown.{grows_both}
@@ -32,27 +27,28 @@ use Rattle.tsl_world.proofs.Places.{at_each_join, at_fewer, at_join, at_more, at
 use Rattle.tessla_cli.specs.declared.ended.Ended.{Ended}
 use Rattle.tessla_cli.specs.declared.ending.Ending.{Ending}
 use Rattle.tessla_cli.specs.declared.ending.Ending.TheVariants as ending
-use Rattle.trace_run.specs.declared.broken.Broken.{Broken}
-use Rattle.trace_run.specs.declared.broken.Broken.TheVariants as broken
+use Rattle.tsl_world.specs.declared.broken.Broken.{Broken}
+use Rattle.tsl_world.specs.declared.broken.Broken.TheVariants as broken
 use Rattle.tessla_cli.specs.Alone.{BenchStops, IsTallyText}
-use Rattle.tessla_cli.specs.Asked.{asks_statistics, for_asked, made_files, options_of, program_files}
+use Rattle.tessla_cli.specs.Asked.{for_asked, made_files}
 use Rattle.tessla_cli.specs.Causes.{Cause, Stands}
 use Rattle.tessla_cli.specs.Conduct.{IsAllWhole, IsPartlyDue, MakesNothing, MayMake, StopsAtFailures}
 use Rattle.tessla_cli.specs.Endings.{ending_of}
 use Rattle.tessla_cli.specs.Failures.{Failures, NoneFailed, CallFailed, WriteFailed, SomeFailed}
-use Rattle.tessla_cli.specs.Headline.{OfSource}
 use Rattle.tessla_cli.specs.Messages.{broken_line, status_of}
 use Rattle.tessla_cli.specs.Printed.{RefusesForm, channel_of}
-use Rattle.tessla_cli.specs.Outcome.{Ends, EndsWith, IsToldBefore, unasked, refused_before, counted, TellsFailure, told_failure, untold_ending, untold_memory, untold_failure, Outcome, told, outside, memory, ShowsAlways, Concludes, TellsBroken, all_of_broken, some_of_broken, TellsEnding, all_of_ending, some_of_ending}
-use Rattle.tessla_cli.specs.Stages.{AreWhole, AreWholeBefore, HasWhole, at_program, at_work, is_silent, opened_at, stage_of}
+use Rattle.tessla_cli.specs.Outcome.{EndsWith, IsToldBefore, TellsFailure, told_failure, untold_ending, untold_memory, untold_failure, Outcome, told, outside, memory, ShowsAlways, Concludes, TellsBroken, all_of_broken, some_of_broken, TellsEnding, all_of_ending, some_of_ending}
+use Rattle.tessla_cli.specs.Running.{OfSource}
+use Rattle.tessla_cli.specs.Stages.{AreWholeBefore, Stage, at_program, at_work, opened_at, stage_of, whole_at}
 use Rattle.tessla_cli.specs.Unseen.{NoUpdateIsSeen}
 use Rattle.trace_run.specs.Effects.{Writes}
-use Rattle.tessla_cli.specs.inner.RunPhases.{ReadsSpec, GivesSource, SourceEnds, spec_refused, compiled_ends, HasPrinted, HasWritten, IsAgainst, IsWritten, all_written, none_written, whole_ends, AloneEnds, AloneIsDone, written, stopped, DoesAll, DoesAllAsked, IsToldAfter, WordsRefused}
+use Rattle.tessla_cli.specs.inner.RunPhases.{ReadsSpec, GivesSource, SourceEnds, spec_refused, compiled_ends, HasPrinted, HasWritten, IsAgainst, IsWritten, all_written, none_written, whole_ends, AloneIsDone, written, stopped, DoesAllAsked, WordsRefused}
 use Rattle.tessla_cli.proofs.Failing.{call_and_none, call_and_write, none_and_write}
-use Rattle.tessla_cli.proofs.Facts.{of_text}
-use Rattle.tessla_cli.proofs.Fronts.{Shows, front_creations, front_no_gift, front_openings, nothing_given, spec_file, whole_now}
-use Rattle.tessla_cli.proofs.Refused.{IsToldBy, done_speaks, refused_stands, told_by_line}
+use Rattle.tessla_cli.proofs.Facts.{of_text, spec_front}
+use Rattle.tessla_cli.proofs.Fronts.{Front, MayOpen, Shows, front_creations, front_given, front_openings, nothing_given, whole_now}
+use Rattle.tessla_cli.proofs.Refused.{IsToldBy, done_speaks, program_early, refused_stands, told_by_line}
 use Rattle.tessla_cli.proofs.RunStands.{trace_before, trace_stands}
+use Rattle.tessla_cli.proofs.WhyStands.{why_before, why_stands}
 use Rattle.tessla_cli.proofs.Writing.{given_there, has_put_puts, put_facts, put_made, put_whole, refusals}
 
 -- a run that ends before the end of its trace is not done
@@ -82,28 +78,36 @@ module _ (name : List ℕ) (f : Form) (reads : List Did) (r : ReadsSpec reads) (
   abbrev write : Command
   write = command.Write name f
 
+  abbrev files : List (Slot × List ℕ)
+  files = (Spec, name) ∷ []
+
+  abbrev front : List Did
+  front = Opened Spec name ∷ reads
+
+  front_is : Front write files front
+  front_is = spec_front name f reads r source g
+
   text_stands : (rest : List Did) → HasPrinted source f rest → Stands (Some write) ending.Done (seen (Opened Spec name ∷ (reads ++ rest)))
   text_stands rest p =
       let part = Opened Spec name ∷ (reads ++ rest) in
       let facts = put_facts f name p.text rest (has_put_puts f p.text rest p.puts) in
-      let given_is : given_aside (channel_of f) part ≡ p.text =
-      given_there f part ∙ given_after (channel_of f) (Opened Spec name ∷ reads) rest (front_no_gift spec_file name reads r (channel_of f)) ∙ put_whole f p.text rest p.puts in
+      let given_is : given_aside (channel_of f) part ≡ p.text = given_there f part ∙ front_given write files front front_is (channel_of f) rest ∙ put_whole f p.text rest p.puts in
       record {
         holds = (refl, of_text name f reads r source g rest (facts.unread Spec) p.text p.is (λ text. given_aside (channel_of f) part ≡ text) given_is);
-        opens = front_openings spec_file name reads r rest ∙ ap (λ (l : List (Slot × List ℕ)). (Spec, name) ∷ l) facts.opens;
-        whole = (whole_now spec_file name reads r source g rest (facts.unread Spec), tt);
-        makes = front_creations spec_file name reads r rest ∙ put_made f name p.text rest p.puts;
+        opens = front_openings write files front front_is rest ∙ ap (λ (l : List (Slot × List ℕ)). (Spec, name) ∷ l) facts.opens;
+        whole = whole_now write files front front_is Trace (refl, tt) rest (λ at other. facts.unread at);
+        makes = front_creations write files front front_is rest ∙ put_made f name p.text rest p.puts;
         silent = λ to is. done_speaks to is;
       }
 
   -- what stands against a text is the cause of an ending, before the work
-  against_here : (by : Ending) → IsAgainst source f by → (x : Seen) → x.taken Spec ≡ source → OfSource x (λ items s. RefusesForm f s by)
-  against_here by a x same = record { items = a.items; system = a.system; compiled = subst (λ (l : List ℕ). Compiles l a.items a.system) (sym same) a.compiles; holds = a.refuses }
+  against_here : (by : Ending) → IsAgainst source f by → OfSource (seen front) (λ items s. RefusesForm f s by)
+  against_here by a = record { items = a.items; system = a.system; compiled = subst (λ (l : List ℕ). Compiles l a.items a.system) (sym g.bytes_are) a.compiles; holds = a.refuses }
 
-  against_cause : (by : Ending) → IsAgainst source f by → (x : Seen) → x.taken Spec ≡ source → Cause (Some write) x by
-  against_cause by a x same = elim (refusals f a.system by a.refuses) [
-    | inl (k, is) ↦ subst (Cause (Some write) x) (sym is) (against_here (ending.NoOutput k) (subst (IsAgainst source f) is a) x same)
-    | inr (fault, is) ↦ subst (Cause (Some write) x) (sym is) (against_here (ending.Code fault) (subst (IsAgainst source f) is a) x same)
+  against_cause : (by : Ending) → IsAgainst source f by → Cause (Some write) (seen front) by
+  against_cause by a = elim (refusals f a.system by a.refuses) [
+    | inl (k, is) ↦ subst (Cause (Some write) (seen front)) (sym is) (against_here (ending.NoOutput k) (subst (IsAgainst source f) is a))
+    | inr (fault, is) ↦ subst (Cause (Some write) (seen front)) (sym is) (against_here (ending.Code fault) (subst (IsAgainst source f) is a))
   ]
 
   against_early : (by : Ending) → IsAgainst source f by → stage_of by ≡ at_program
@@ -112,14 +116,18 @@ module _ (name : List ℕ) (f : Form) (reads : List Did) (r : ReadsSpec reads) (
     | inr (fault, is) ↦ ap stage_of is
   ]
 
-  done_stands : (by : Ending) (rest : List Did) → IsWritten source f by rest → Stands (Some write) by (seen (Opened Spec name ∷ (reads ++ rest)))
-  done_stands by rest (all_written done p) = subst (λ (b : Ending). Stands (Some write) b (seen (Opened Spec name ∷ (reads ++ rest)))) (sym done) (text_stands rest p)
-  done_stands by rest (none_written a none) = refused_stands spec_file write name refl reads r source g by (against_early by a) (against_cause by a) rest none
+  -- a specification that is refused, or of which there is no text
+  source_stands : (by : Ending) → stage_of by ≡ at_program → Cause (Some write) (seen front) by → (rest : List Did) → rest ≡ [] → Stands (Some write) by (seen (front ++ rest))
+  source_stands by early cause = refused_stands write files front front_is by (program_early by early) (ap (λ (s : Stage). whole_at s write) early) cause
 
-  written_stands : (by : Ended) (rest : List Did) → SourceEnds source (HasWritten source f by) by rest → Stands (Some write) by.ending (seen (Opened Spec name ∷ (reads ++ rest)))
+  done_stands : (by : Ending) (rest : List Did) → IsWritten source f by rest → Stands (Some write) by (seen (front ++ rest))
+  done_stands by rest (all_written done p) = subst (λ (b : Ending). Stands (Some write) b (seen (front ++ rest))) (sym done) (text_stands rest p)
+  done_stands by rest (none_written a none) = source_stands by (against_early by a) (against_cause by a) rest none
+
+  written_stands : (by : Ended) (rest : List Did) → SourceEnds source (HasWritten source f by) by rest → Stands (Some write) by.ending (seen (front ++ rest))
   written_stands by rest (spec_refused {fault} same nothing refused none) =
-      subst (λ (b : Ending). Stands (Some write) b (seen (Opened Spec name ∷ (reads ++ rest)))) (sym same)
-      (refused_stands spec_file write name refl reads r source g (ending.Spec fault) refl (λ x taken_is. subst (λ (l : List ℕ). IsRefusedBy l fault) (sym taken_is) refused) rest none)
+      subst (λ (b : Ending). Stands (Some write) b (seen (front ++ rest))) (sym same)
+      (source_stands (ending.Spec fault) refl (subst (λ (l : List ℕ). IsRefusedBy l fault) (sym g.bytes_are) refused) rest none)
   written_stands by rest (compiled_ends h) = done_stands by.ending rest h.done
 
   written_before : (x : Seen) (by : Ended) (rest : List Did) → SourceEnds source (HasWritten source f by) by rest → IsToldBy (Some write) by x
@@ -143,8 +151,10 @@ stops_stand kind n ending.Words stops = absurd (stops_not_words kind n stops)
 stops_stand kind n (ending.Spec fault) stops = record { holds = stops; opens = refl; whole = tt; makes = refl; silent = λ to is. nothing_given [] to tt }
 stops_stand kind n (ending.Code fault) stops = record { holds = stops; opens = refl; whole = tt; makes = refl; silent = λ to is. nothing_given [] to tt }
 stops_stand kind n (ending.NoOutput name) stops = record { holds = stops; opens = refl; whole = tt; makes = refl; silent = λ to is. nothing_given [] to tt }
+stops_stand kind n (ending.State fault) stops = record { holds = stops; opens = refl; whole = tt; makes = refl; silent = λ to is. nothing_given [] to tt }
 stops_stand kind n (ending.Trace fault) stops = record { holds = (stops, refl); opens = refl; whole = tt; makes = refl; silent = λ to is. nothing_given [] to tt }
 stops_stand kind n (ending.Fault t k p) stops = record { holds = (stops, refl); opens = refl; whole = tt; makes = refl; silent = λ to is. nothing_given [] to tt }
+stops_stand kind n (ending.NoEvent name t) stops = record { holds = (stops, refl); opens = refl; whole = tt; makes = refl; silent = λ to is. nothing_given [] to tt }
 stops_stand kind n (ending.Limit m t) stops = record { holds = (stops, refl); opens = refl; whole = tt; makes = refl; silent = λ to is. nothing_given [] to tt }
 
 tally_stands : (kind : Workload) (n : ℕ) (by : Ending) (part : List Did) → AloneIsDone (IsTallyText kind n) (BenchStops kind n) by part → Stands (Some (command.Bench kind n)) by (seen part)
@@ -167,6 +177,7 @@ pub asked_stands : (c : Option Command) (by : Ended) (part : List Did) → DoesA
 asked_stands None by part does = words_stand by part does
 asked_stands (Some (command.Write name f)) by _ (whole_ends reads rest source r g e) = written_stands name f reads r source g by rest e
 asked_stands (Some (command.Run r)) by _ (whole_ends reads rest bytes read g e) = trace_stands r reads read bytes g by rest e
+asked_stands (Some (command.Why w)) by _ (whole_ends reads rest source r g e) = why_stands w reads r source g by rest e
 asked_stands (Some (command.Generate n)) by part does = sample_stands n by.ending part does.done
 asked_stands (Some (command.Bench kind n)) by part does = tally_stands kind n by.ending part does.done
 
@@ -174,6 +185,7 @@ pub asked_before : (c : Option Command) (by : Ended) (part : List Did) → DoesA
 asked_before None by part does = told_by_line None by (seen part) refl does.told
 asked_before (Some (command.Write name f)) by _ (whole_ends reads rest source r g e) = written_before name f reads r source g (seen (Opened Spec name ∷ (reads ++ rest))) by rest e
 asked_before (Some (command.Run r)) by _ (whole_ends reads rest bytes read g e) = trace_before r reads read bytes g by rest e
+asked_before (Some (command.Why w)) by _ (whole_ends reads rest source r g e) = why_before w reads r source g (seen (Opened Spec w.spec ∷ (reads ++ rest))) by rest e
 asked_before (Some (command.Generate n)) by part does = told_by_line (Some (command.Generate n)) by (seen part) refl does.told
 asked_before (Some (command.Bench kind n)) by part does = told_by_line (Some (command.Bench kind n)) by (seen part) refl does.told
 
@@ -209,7 +221,7 @@ module _ (c : Option Command) (unseen : (x : Seen) → NoUpdateIsSeen c x) where
       makes = subst (λ (l : List (Channel × List ℕ)). Begins l (for_asked made_files c)) (sym (creations_before part more moves)) s.makes;
       makes_last = after_writes IsCreation (λ before. IsAllWhole c (seen before) × MayMake c (seen before)) (λ did gift. transfer_makes_none did (gift_transfer Err did gift)) s.makes_last;
       in_turn = record {
-        opens = λ from. after_writes (IsOpening from) (λ before. AreWholeBefore from (for_asked (opened_at at_work) c) (seen before)) (λ did gift. transfer_opens_none from did (gift_transfer Err did gift)) (s.in_turn.opens from);
+        opens = λ from. after_writes (IsOpening from) (MayOpen c from) (λ did gift. transfer_opens_none from did (gift_transfer Err did gift)) (s.in_turn.opens from);
         reads = λ from. at_more from (λ before. AreWholeBefore from (for_asked (opened_at at_work) c) (seen before)) part more (s.in_turn.reads from) (no_reads from);
       };
       writes_last = λ to other. after_writes (IsGift to) (λ before. IsAllWhole c (seen before)) (λ did gift. not_gift to did (gift_elsewhere Err to (same_channel_back Err to ∙ other) did gift)) (s.writes_last to other);
@@ -303,7 +315,9 @@ no_five ending.Done is = absurd (omega arith)
 no_five ending.Words is = absurd (omega arith)
 no_five (ending.Spec place) is = absurd (omega arith)
 no_five (ending.Code fault) is = absurd (omega arith)
+no_five (ending.NoEvent name t) is = absurd (omega arith)
 no_five (ending.NoOutput name) is = absurd (omega arith)
+no_five (ending.State fault) is = absurd (omega arith)
 no_five (ending.Trace fault) is = absurd (omega arith)
 no_five (ending.Fault t k p) is = absurd (omega arith)
 no_five (ending.Limit n t) is = absurd (omega arith)

@@ -25,7 +25,7 @@ use Rattle.tessla_cli.specs.Asked.{made_files}
 use Rattle.tessla_cli.specs.Printed.{RefusesForm, channel_of}
 use Rattle.tessla_cli.specs.declared.ending.Ending.{Ending}
 use Rattle.tessla_cli.specs.declared.ending.Ending.TheVariants as ending
-use Rattle.tessla_cli.specs.inner.RunPhases.{HasPut, has_put_file, has_put_out, Puts, no_file_made, puts_file, puts_out}
+use Rattle.tessla_cli.specs.inner.RunPhases.{HasPut, has_put_file, has_put_out, HasPutFile, has_put_all, Puts, puts_file, puts_out, PutsFile, file_made, no_file_made}
 
 -- Where a text goes, as far as it comes: nothing is opened and read, a file is made for a form that has one, and only its channel is given
 -- anything.
@@ -53,48 +53,73 @@ out_facts f spec text part is w some = let moves = gifts_transfer Out part w.gif
   some = subst (λ (c : Channel). Begins (given c part) text) (sym is) some;
 }
 
-file_facts : (file spec text : List ℕ) (part : List Did) → Writes Code part → Begins (given Code part) text → PutFacts (form.File file) spec text (Created Code file ∷ part)
-file_facts file spec text part w some = let moves = gifts_transfer Code part w.gifts in record {
-  opens = openings_none part moves;
-  makes = inr (ap (λ (l : List (Channel × List ℕ)). (Code, file) ∷ l) (creations_none part moves));
-  made = inr (file, refl);
-  unopened = λ from. ((λ (no : ⊥). no), each_more IsTransfer (λ did. IsOpening from did → ⊥) (transfer_opens_none from) part moves);
-  unread = λ from. (tt, gifts_read_none Code from part w.gifts);
-  pieces = (tt, gifts_within Code MOST_PIECE_BYTES part w.gifts);
-  stops = at_each_join IsDone (Created Code file ∷ []) part (tt, tt) w.stops;
-  elsewhere = λ to other. (tt, gifts_elsewhere Code to other part w.gifts);
-  some = some;
-}
+-- A file that is made for a text, as far as it comes.
+pub record FileFacts (to : Channel) (name text : List ℕ) (part : List Did) : Type 0 where
+  pub opens : openings part ≡ []
+  pub makes : creations part ≡ (to, name) ∷ []
+  pub unopened : (from : Slot) → Each (λ did. IsOpening from did → ⊥) part
+  pub unread : (from : Slot) → Each (IsNoRead from) part
+  pub pieces : Each (IsWithin MOST_PIECE_BYTES) part
+  pub stops : StopsAtFailure part
+  pub elsewhere : (other : Channel) → same_channel to other ≡ false → Each (IsNoGift other) part
+  pub some : Begins (given to part) text
 
-no_file_facts : (file spec text : List ℕ) → PutFacts (form.File file) spec text (NotCreated Code file ∷ [])
-no_file_facts file spec text = record {
+pub file_facts : (to : Channel) (name text : List ℕ) (part : List Did) → PutsFile to name text part → FileFacts to name text part
+file_facts to name text _ no_file_made = record {
   opens = refl;
-  makes = inr refl;
-  made = inr (file, refl);
+  makes = refl;
   unopened = λ from. ((λ (no : ⊥). no), tt);
   unread = λ from. (tt, tt);
   pieces = (tt, tt);
-  stops = stops_one [] (NotCreated Code file) tt;
-  elsewhere = λ to other. (tt, tt);
+  stops = stops_one [] (NotCreated to name) tt;
+  elsewhere = λ other apart. (tt, tt);
   some = record { rest = text; is = refl };
+}
+file_facts to name text _ (file_made part w some) = let moves = gifts_transfer to part w.gifts in record {
+  opens = openings_none part moves;
+  makes = ap (λ (l : List (Channel × List ℕ)). (to, name) ∷ l) (creations_none part moves);
+  unopened = λ from. ((λ (no : ⊥). no), each_more IsTransfer (λ did. IsOpening from did → ⊥) (transfer_opens_none from) part moves);
+  unread = λ from. (tt, gifts_read_none to from part w.gifts);
+  pieces = (tt, gifts_within to MOST_PIECE_BYTES part w.gifts);
+  stops = at_each_join IsDone (Created to name ∷ []) part (tt, tt) w.stops;
+  elsewhere = λ other apart. (tt, gifts_elsewhere to other apart part w.gifts);
+  some = some;
+}
+
+put_file_facts : (name spec text : List ℕ) (part : List Did) → FileFacts Code name text part → PutFacts (form.File name) spec text part
+put_file_facts name spec text part f = record {
+  opens = f.opens;
+  makes = inr f.makes;
+  made = inr (name, refl);
+  unopened = f.unopened;
+  unread = f.unread;
+  pieces = f.pieces;
+  stops = f.stops;
+  elsewhere = f.elsewhere;
+  some = f.some;
 }
 
 pub put_facts : (f : Form) (spec text : List ℕ) (part : List Did) → Puts text f part → PutFacts f spec text part
 put_facts f spec text _ (puts_out part is w some) = out_facts f spec text part is w some
-put_facts _ spec text _ (no_file_made {name}) = no_file_facts name spec text
-put_facts _ spec text _ (puts_file {name} part w some) = file_facts name spec text part w some
+put_facts _ spec text _ (puts_file {name} part puts) = put_file_facts name spec text part (file_facts Code name text part puts)
 
 -- all of a text
 all_begins : (given text : List ℕ) → given ≡ text → Begins given text
 all_begins given text whole = record { rest = []; is = sym whole ∙ sym (append-nil given) }
 
+pub has_put_file_puts : (to : Channel) (name text : List ℕ) (part : List Did) → HasPutFile to name text part → PutsFile to name text part
+has_put_file_puts to name text _ (has_put_all part w done whole) = file_made part w (all_begins (given to part) text whole)
+
+pub put_file_whole : (to : Channel) (name text : List ℕ) (part : List Did) → HasPutFile to name text part → given to part ≡ text
+put_file_whole to name text _ (has_put_all part w done whole) = whole
+
 pub has_put_puts : (f : Form) (text : List ℕ) (part : List Did) → HasPut text f part → Puts text f part
 has_put_puts f text _ (has_put_out part is w whole) = puts_out part is w (all_begins (given Out part) text whole)
-has_put_puts _ text _ (has_put_file part w whole) = puts_file part w (all_begins (given Code part) text whole)
+has_put_puts _ text _ (has_put_file {name} part put) = puts_file part (has_put_file_puts Code name text part put)
 
 pub put_whole : (f : Form) (text : List ℕ) (part : List Did) → HasPut text f part → given (channel_of f) part ≡ text
 put_whole f text _ (has_put_out part is w whole) = ap (λ (c : Channel). given c part) is ∙ whole
-put_whole _ text _ (has_put_file part w whole) = whole
+put_whole _ text _ (has_put_file {name} part put) = put_file_whole Code name text part put
 
 -- what goes to Out has no file
 no_file_on_out : (f : Form) (spec : List ℕ) → channel_of f ≡ Out → made_files (command.Write spec f) ≡ []
@@ -107,7 +132,7 @@ no_file_on_out (form.File name) spec is = absurd (let bad : Code ≡ Out = is in
 
 pub put_made : (f : Form) (spec text : List ℕ) (part : List Did) → HasPut text f part → creations part ≡ made_files (command.Write spec f)
 put_made f spec text _ (has_put_out part is w whole) = creations_none part (gifts_transfer Out part w.gifts) ∙ sym (no_file_on_out f spec is)
-put_made _ spec text _ (has_put_file {name} part w whole) = ap (λ (l : List (Channel × List ℕ)). (Code, name) ∷ l) (creations_none part (gifts_transfer Code part w.gifts))
+put_made _ spec text _ (has_put_file {name} part put) = (file_facts Code name text part (has_put_file_puts Code name text part put)).makes
 
 -- no text goes to Err
 pub given_there : (f : Form) (journal : List Did) → given_aside (channel_of f) journal ≡ given (channel_of f) journal
@@ -153,9 +178,9 @@ out_unless_file (form.Slice name) other = refl
 out_unless_file (form.File name) other = absurd (other name refl)
 
 -- what is written whole
-pub has_put_of : {E : Type 0} (file text : List ℕ) (result : Result (Unit {0}) E) (part : List Did) → Gives Code text result part → OnOk result (HasPut text (form.File file) (Created Code file ∷ part))
-has_put_of file text (Ok done) part g = has_put_file part g.writes g.whole
-has_put_of file text (Err failed) part g = tt
+pub has_put_of : {E : Type 0} (to : Channel) (name text : List ℕ) (result : Result (Unit {0}) E) (part : List Did) → Gives to text result part → OnOk result (HasPutFile to name text (Created to name ∷ part))
+has_put_of to name text (Ok done) part g = has_put_all part g.writes g.done g.whole
+has_put_of to name text (Err failed) part g = tt
 
 pub has_put_on_out : {E : Type 0} (f : Form) → channel_of f ≡ Out → (text : List ℕ) (result : Result (Unit {0}) E) (part : List Did) → Gives Out text result part → OnOk result (HasPut text f part)
 has_put_on_out f is text (Ok done) part g = has_put_out part is g.writes g.whole

@@ -4,7 +4,10 @@ pub mod Endings
 pub mod Printed
 pub mod Messages
 pub mod Alone
+pub mod Running
+pub mod Explained
 pub mod Headline
+pub mod Finished
 pub mod Failures
 pub mod Conduct
 pub mod Causes

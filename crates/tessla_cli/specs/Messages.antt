@@ -17,12 +17,14 @@ use Rattle.source_rules.specs.declared.fault.FlatFault.{FlatFault}
 use Rattle.source_rules.specs.declared.fault.FlatFault.TheVariants as flat
 use Rattle.source_rules.specs.declared.fault.SpecFault.{SpecFault}
 use Rattle.source_rules.specs.declared.fault.SpecFault.TheVariants as spec
+use Rattle.state_snapshot.specs.declared.fault.StateFault.{StateFault}
+use Rattle.state_snapshot.specs.declared.fault.StateFault.TheVariants as state
 use Rattle.trace_reader.specs.declared.fault.TraceFault.{TraceFault}
 use Rattle.trace_reader.specs.declared.fault.TraceFault.TheVariants as trace
 use Rattle.tessla_cli.specs.declared.ending.Ending.{Ending}
 use Rattle.tessla_cli.specs.declared.ending.Ending.TheVariants as ending
-use Rattle.trace_run.specs.declared.broken.Broken.{Broken}
-use Rattle.trace_run.specs.declared.broken.Broken.TheVariants as broken
+use Rattle.tsl_world.specs.declared.broken.Broken.{Broken}
+use Rattle.tsl_world.specs.declared.broken.Broken.TheVariants as broken
 
 -- the number of a refused line, and why it is refused; out of memory is told otherwise
 abbrev pub line_text : ℕ → List ℕ → List ℕ
@@ -127,12 +129,25 @@ code_text code.Cycle = codes "cycle"
 code_text code.NotFine = codes "plan not fine"
 code_text code.Memory = []
 
+-- why there is no state that a run can go on from; out of memory is told otherwise
+abbrev pub state_text : StateFault → List ℕ
+state_text state.OtherProgram = codes "other program"
+state_text state.WrongForm = codes "wrong form"
+state_text state.Memory = []
+
 -- how many instants ran, and when the next one comes
 abbrev pub next_text : ℕ → List ℕ
 next_text time = codes " instants before time " ++ decimal time
 
 abbrev pub limit_text : ℕ → ℕ → List ℕ
 limit_text count time = codes "limit: " ++ (decimal count ++ next_text time)
+
+-- that an output has no event at a time
+abbrev pub at_time_text : ℕ → List ℕ
+at_time_text time = codes " at " ++ decimal time
+
+abbrev pub no_event_text : List ℕ → ℕ → List ℕ
+no_event_text name time = codes "no event of " ++ (name ++ at_time_text time)
 
 -- with the end of a line
 abbrev pub as_line : List ℕ → List ℕ
@@ -144,7 +159,9 @@ ending_line ending.Done = []
 ending_line ending.Words = as_line (codes "words not accepted")
 ending_line (ending.Spec fault) = as_line (codes "spec " ++ spec_text fault)
 ending_line (ending.Code fault) = as_line (codes "code: " ++ code_text fault)
+ending_line (ending.State fault) = as_line (codes "state: " ++ state_text fault)
 ending_line (ending.NoOutput name) = as_line (codes "no output " ++ name)
+ending_line (ending.NoEvent name time) = as_line (no_event_text name time)
 ending_line (ending.Trace fault) = as_line (codes "trace " ++ trace_text fault)
 ending_line (ending.Fault time kind place) = fault_line time kind place
 ending_line (ending.Limit count time) = as_line (limit_text count time)
@@ -167,5 +184,7 @@ status_of ending.Words = 2
 status_of (ending.Spec fault) = 3
 status_of (ending.Trace fault) = 4
 status_of (ending.Limit count time) = 7
+status_of (ending.State fault) = 8
 status_of (ending.Code fault) = 9
 status_of (ending.NoOutput name) = 10
+status_of (ending.NoEvent name time) = 10

@@ -4,25 +4,28 @@ use Rattle.command_words.specs.declared.command.Command.{Command}
 use Rattle.command_words.specs.declared.command.Command.TheVariants as command
 use Rattle.command_words.specs.declared.command.Run.{Run}
 use Rattle.trace_run.specs.Effects.{Writes}
-use Rattle.trace_run.specs.Statistics.{AreStatistics}
-use Rattle.trace_run.specs.declared.broken.Broken.{Broken}
-use Rattle.trace_run.specs.declared.broken.Broken.TheVariants as broken
+use Rattle.trace_run.specs.Before.{Before}
+use Rattle.trace_run.specs.Means.{all_of, told_of}
+use Rattle.trace_run.specs.Program.{Program, system_of}
+use Rattle.trace_run.specs.Statistics.{AreStatistics, statistics_text}
+use Rattle.tsl_world.specs.declared.broken.Broken.{Broken}
+use Rattle.tsl_world.specs.declared.broken.Broken.TheVariants as broken
 use Rattle.tsl_world.specs.Begins.{BeginsStrictly}
 use Rattle.tsl_world.specs.declared.outside.Did.{Did}
-use Rattle.tsl_world.specs.declared.outside.Slot.TheVariants.{Trace}
 use Rattle.tsl_world.specs.declared.outside.Channel.TheVariants.{Err}
 use Rattle.tsl_world.specs.Journal.{given}
 use Rattle.tsl_world.specs.Seen.{Seen, seen}
 use Rattle.tessla_cli.specs.declared.ended.Ended.{Ended}
 use Rattle.tessla_cli.specs.declared.ending.Ending.{Ending}
-use Rattle.tessla_cli.specs.Asked.{asks_statistics, options_of}
+use Rattle.tessla_cli.specs.Asked.{asks_statistics, tells_end}
 use Rattle.tessla_cli.specs.Causes.{Cause, Stands}
 use Rattle.tessla_cli.specs.Conduct.{OpensAsAsked, MakesAsAsked, MakesLast, TakesInTurn, StopsAtEnds, StopsAtLimits, ReadsPieces}
 use Rattle.tessla_cli.specs.Conduct.{GoesOnAtReads, IsPartlyDue, MakesNothing, StopsAtFailures, WritesLast}
 use Rattle.tessla_cli.specs.Endings.{OfEnding}
 use Rattle.tessla_cli.specs.Failures.{Failures, NoneFailed, CallFailed, WriteFailed, BothFailed}
-use Rattle.tessla_cli.specs.Headline.{IsDueAtReads, OfRun}
+use Rattle.tessla_cli.specs.Headline.{IsDueAtReads}
 use Rattle.tessla_cli.specs.Messages.{ending_line, broken_line, broken_status, status_of}
+use Rattle.tessla_cli.specs.Running.{IsBefore, OfRun}
 use Rattle.tessla_cli.specs.Stages.{at_work, stage_of}
 use Rattle.tessla_cli.specs.Unseen.{NoUpdateIsSeen}
 
@@ -48,14 +51,20 @@ pub data TellsEnding (by : Ended) (before now : Failures) (status : ℕ) (part :
   some_of_ending : status ≡ 5 → WriteFailed before now → Writes Err part → BeginsStrictly (given Err part) by.text
       → TellsEnding by before now status part
 
+-- The text has a line for each running update of a program, with some numbers. Whatever stands before the run, they are the statistics
+-- where it ends so, from the first byte of the first run on.
+pub record IsCountedAs (r : Run) (by : Ending) (x : Seen) (p : Program) (text : List ℕ) : Type 0 where
+  pub counts : ℕ → ℕ
+  pub text_is : text ≡ statistics_text (system_of p) counts
+  pub are : (b : Before) → IsBefore r.resume r p x b
+      → OfEnding by (λ how. AreStatistics p b.options (all_of b x) (told_of (tells_end r) x) how text)
+
 module _ (c : Option Command) where
   -- This is told before the line of an ending: nothing, or the statistics of a run that was asked for them and did its work.
   pub data IsToldBefore (by : Ending) (x : Seen) (text : List ℕ) : Type 0 where
     unasked : asks_statistics c ≡ false → text ≡ [] → IsToldBefore by x text
     refused_before : (stage_of by ≡ at_work → ⊥) → text ≡ [] → IsToldBefore by x text
-    counted : (r : Run) → c ≡ Some (command.Run r) → r.stats ≡ true
-        → OfRun r.origin x (λ p. OfEnding by (λ how. AreStatistics p (options_of r) (x.taken Trace) (x.ended Trace) how text))
-        → IsToldBefore by x text
+    counted : (r : Run) → c ≡ Some (command.Run r) → r.stats ≡ true → OfRun r x (λ p. IsCountedAs r by x p text) → IsToldBefore by x text
 
   -- The program ends so. Err was given what is told before and then the line of the ending, if it has one.
   pub record Ends (by : Ending) (part : List Did) : Type 0 where
@@ -66,8 +75,9 @@ module _ (c : Option Command) where
 
   -- The program ends with this status, by an ending that has it: 0 where all was done, 1 where a fault is closed within the limit of
   -- instants, 2 where the words are not accepted, 3 where the specification is refused, 4 where a line of the trace is and no fault and no
-  -- limit came at a time closed before it, 7 where one more instant than may be is closed, and none before it has a fault, 9 where the
-  -- bytes of the code are too many or a code file is refused, 10 where no output has the name.
+  -- limit came at a time closed before it, 7 where one more instant than may be is closed, and none before it has a fault, 8 where the
+  -- state that the words name is refused, 9 where the bytes of the code are too many or a code file is refused, 10 where no output has the
+  -- name, or none of its events comes at the time that is asked for.
   abbrev pub EndsWith : ℕ → List Did → Type 0
   EndsWith status part = (by : Ending) × (status ≡ status_of by) × Ends by part
 

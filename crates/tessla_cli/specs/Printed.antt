@@ -20,6 +20,9 @@ use Rattle.command_words.specs.declared.command.Form.TheVariants as form
 use Rattle.slice_text.specs.Text.{HasOutput, HasSliceText}
 use Rattle.tsl_world.specs.declared.outside.Channel.{Channel}
 use Rattle.tsl_world.specs.declared.outside.Channel.TheVariants as channel
+use Rattle.tsl_world.specs.declared.outside.Slot.TheVariants.{Spec}
+use Rattle.tsl_world.specs.Seen.{Seen}
+use Rattle.tessla_cli.specs.Stages.{HasWhole}
 use Rattle.tessla_cli.specs.declared.ending.Ending.{Ending}
 use Rattle.tessla_cli.specs.declared.ending.Ending.TheVariants as ending
 
@@ -62,6 +65,13 @@ pub record IsTextOf (source : List ℕ) (f : Form) (text : List ℕ) : Type 0 wh
   pub compiles : Compiles source items system
   pub taken : IsTakenPlan system set order
   pub is : HasText f (record { system = system; in_place = set; order = order }) text
+
+-- A fact about the text that the specification has in a form. It was read whole.
+pub record OfText (f : Form) (x : Seen) (P : List ℕ → Type 0) : Type 0 where
+  pub whole : HasWhole Spec x
+  pub text : List ℕ
+  pub is : IsTextOf (x.taken Spec) f text
+  pub holds : P text
 
 -- a fact about the code of a system by the plan that is taken
 pub record OfTakenCode (s : System) (P : Code → Type 0) : Type 0 where

@@ -9,14 +9,16 @@ use Rattle.tsl_world.specs.declared.outside.Slot.{Slot}
 use Rattle.tsl_world.specs.declared.outside.Slot.TheVariants as slot
 use Rattle.tsl_world.specs.Journal.{same_slot}
 use Rattle.tsl_world.specs.Seen.{Seen}
-use Rattle.tessla_cli.specs.Asked.{made_files, program_files, trace_files}
+use Rattle.tessla_cli.specs.declared.limits.TheConstants.{MOST_STATE_BYTES}
+use Rattle.tessla_cli.specs.Asked.{made_files, program_files, state_files, trace_files}
 use Rattle.tessla_cli.specs.declared.ending.Ending.{Ending}
 use Rattle.tessla_cli.specs.declared.ending.Ending.TheVariants as ending
 
--- to the words, to what runs, or to its work
+-- to the words, to what runs, to the state that it goes on from, or to its work
 pub data Stage : Type 0 where
   at_words : Stage
   at_program : Stage
+  at_state : Stage
   at_work : Stage
 
 abbrev pub stage_of : Ending → Stage
@@ -24,22 +26,25 @@ stage_of ending.Words = at_words
 stage_of (ending.Spec fault) = at_program
 stage_of (ending.Code fault) = at_program
 stage_of (ending.NoOutput name) = at_program
+stage_of (ending.State fault) = at_state
 stage_of by = at_work
 
 -- the files that were read whole there
 abbrev pub whole_at : Stage → Command → List (Slot × List ℕ)
 whole_at at_words c = []
-whole_at stage c = program_files c
+whole_at at_program c = program_files c
+whole_at stage c = program_files c ++ state_files c
 
 -- and those that were opened
 abbrev pub opened_at : Stage → Command → List (Slot × List ℕ)
-opened_at at_work c = program_files c ++ trace_files c
+opened_at at_work c = whole_at at_work c ++ trace_files c
 opened_at stage c = whole_at stage c
 
 -- how much of a file may be taken that is judged whole
 abbrev pub most_of : Slot → Option ℕ
 most_of slot.Spec = Some MOST_SOURCE_BYTES
 most_of slot.Code = Some MOST_CODE_BYTES
+most_of slot.State = Some MOST_STATE_BYTES
 most_of from = None
 
 -- so much is more than that, or not

@@ -1,2 +1,3 @@
 pub mod RunPhases
 pub mod FileLaws
+pub mod SavedLaws

@@ -7,7 +7,7 @@ ghost use Rattle.tessla_cli.specs.inner.RunPhases.{IsToldAfter};
 use crate::ending::{Ending, ending_of};
 use crate::report::print_ending;
 use std::alloc::Global;
-use trace_run::run::Ran;
+use trace_monitor::ending::RunEnding;
 use tsl_value::bytes::Bytes;
 use tsl_value::memory::NoMemory;
 
@@ -38,10 +38,10 @@ impl Ended {
     }
 
     /// The ending of a run over a trace, which is told after its statistics.
-    pub fn of(ran: Ran) -> Result<Ended, NoMemory>
-        ensures ending { IfOk result (λ ended. ended.ending ≡ ending_of ran.ending) }
-        ensures text { IfOk result (IsToldAfter ran.statistics) }
+    pub fn of(ending: RunEnding, statistics: Bytes) -> Result<Ended, NoMemory>
+        ensures ending { IfOk result (λ ended. ended.ending ≡ ending_of ending) }
+        ensures text { IfOk result (IsToldAfter statistics) }
     {
-        Ended::after(ran.statistics, ending_of(ran.ending))
+        Ended::after(statistics, ending_of(ending))
     }
 }

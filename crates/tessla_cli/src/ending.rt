@@ -6,6 +6,7 @@ ghost use Rattle.tessla_cli.specs.Endings.{ending_of};
 use code_file::fault::CodeFault;
 use lift_func::fault::FaultKind;
 use source_rules::fault::SpecFault;
+use state_snapshot::fault::StateFault;
 use trace_monitor::ending::RunEnding;
 use trace_reader::fault::TraceFault;
 use tsl_value::memory::NoMemory;
@@ -26,6 +27,13 @@ pub enum Ending {
     Code(CodeFault),
     /// No output is printed under this name.
     NoOutput(Text),
+    /// The output of this name has no event at this time.
+    NoEvent {
+        name: Text,
+        time: Time,
+    },
+    /// The state that the run was to go on from is refused.
+    State(StateFault),
     /// A line of the trace is refused.
     Trace(TraceFault),
     /// An equation faults: the fault that is named, and the place of its equation.
@@ -72,5 +80,16 @@ pub fn no_code(fault: CodeFault) -> Result<Ending, NoMemory>
     match fault {
         CodeFault::Memory => Err(NoMemory),
         fault => Ok(Ending::Code(fault)),
+    }
+}
+
+/// How a run ends that was to go on from a state, for this cause. Out of memory is none.
+pub fn no_state(fault: StateFault) -> Result<Ending, NoMemory>
+    ensures ending { IfOk result (λ ending. ending ≡ Ending.State fault) }
+    ensures cause { IfOk result (λ _. fault ≢ StateFault.Memory) }
+{
+    match fault {
+        StateFault::Memory => Err(NoMemory),
+        fault => Ok(Ending::State(fault)),
     }
 }

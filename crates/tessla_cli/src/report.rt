@@ -1,10 +1,10 @@
 // What is told on the standard error.
 
 ghost use Rattle.std.specs.Prelude.{◌≡◌, ◌++◌, OnOk};
-ghost use Rattle.tessla_cli.specs.Messages.{at_text, back_text, broken_line, broken_status, clash_text, code_text, cycle_text};
-ghost use Rattle.tessla_cli.specs.Messages.{ending_line, flat_text, lex_text, limit_text, line_text, members_text, next_text, parse_text};
-ghost use Rattle.tessla_cli.specs.Messages.{spec_text, status_of, trace_text, twice_text, types_text, wrong_text};
-ghost use Rattle.tessla_cli.specs.Messages.{wrong_types_text};
+ghost use Rattle.tessla_cli.specs.Messages.{at_text, at_time_text, back_text, broken_line, broken_status, clash_text, code_text};
+ghost use Rattle.tessla_cli.specs.Messages.{cycle_text, ending_line, flat_text, lex_text, limit_text, line_text, members_text, next_text};
+ghost use Rattle.tessla_cli.specs.Messages.{no_event_text, parse_text, spec_text, state_text, status_of, trace_text, twice_text};
+ghost use Rattle.tessla_cli.specs.Messages.{types_text, wrong_text, wrong_types_text};
 
 use crate::ending::Ending;
 use code_file::fault::CodeFault;
@@ -13,8 +13,8 @@ use event_writer::place::print_place;
 use source_rules::fault::{FlatFault, SpecFault};
 use spec_lexer::fault::LexFault;
 use spec_parser::parse::ParseFault;
+use state_snapshot::fault::StateFault;
 use trace_reader::fault::TraceFault;
-use trace_run::broken::Broken;
 use tsl_value::bytes::Bytes;
 use tsl_value::ids::EqId;
 use tsl_value::memory::NoMemory;
@@ -22,6 +22,7 @@ use tsl_value::place::Place;
 use tsl_value::print::print_number;
 use tsl_value::text::Text;
 use tsl_value::time::Time;
+use tsl_world::Broken;
 use type_check::fault::{Kind, TypeFault};
 use type_check::print::print_kind;
 
@@ -235,6 +236,34 @@ fn print_code(fault: CodeFault, out: &mut Bytes) -> Result<(), NoMemory>
     }
 }
 
+/// Appends why there is no state that a run can go on from.
+fn print_state(fault: StateFault, out: &mut Bytes) -> Result<(), NoMemory>
+    ensures { OnOk result (out.new ≡ out.old ++ state_text fault) }
+{
+    match fault {
+        StateFault::OtherProgram => out.append(b"other program"),
+        StateFault::WrongForm => out.append(b"wrong form"),
+        StateFault::Memory => Ok(()),
+    }
+}
+
+/// Appends at which time.
+fn print_at_time(time: Time, out: &mut Bytes) -> Result<(), NoMemory>
+    ensures { OnOk result (out.new ≡ out.old ++ at_time_text time) }
+{
+    out.append(b" at ")?;
+    print_number(time.get(), out)
+}
+
+/// Appends that an output has no event at a time.
+fn print_no_event(name: &Text, time: Time, out: &mut Bytes) -> Result<(), NoMemory>
+    ensures { OnOk result (out.new ≡ out.old ++ no_event_text name.now time) }
+{
+    out.append(b"no event of ")?;
+    out.append(name.as_str().as_bytes())?;
+    print_at_time(time, out)
+}
+
 /// Appends the line that tells an ending.
 pub fn print_ending(ending: &Ending, out: &mut Bytes) -> Result<(), NoMemory>
     ensures { OnOk result (out.new ≡ out.old ++ ending_line ending.now) }
@@ -252,9 +281,18 @@ pub fn print_ending(ending: &Ending, out: &mut Bytes) -> Result<(), NoMemory>
             print_code(*fault, out)?;
             out.push(b'\n')
         }
+        Ending::State(fault) => {
+            out.append(b"state: ")?;
+            print_state(*fault, out)?;
+            out.push(b'\n')
+        }
         Ending::NoOutput(name) => {
             out.append(b"no output ")?;
             out.append(name.as_str().as_bytes())?;
+            out.push(b'\n')
+        }
+        Ending::NoEvent { name, time } => {
+            print_no_event(name, *time, out)?;
             out.push(b'\n')
         }
         Ending::Trace(fault) => {
@@ -282,8 +320,9 @@ impl Ending {
             Ending::Spec(_) => 3,
             Ending::Trace(_) => 4,
             Ending::Limit { .. } => 7,
+            Ending::State(_) => 8,
             Ending::Code(_) => 9,
-            Ending::NoOutput(_) => 10,
+            Ending::NoOutput(_) | Ending::NoEvent { .. } => 10,
         }
     }
 }

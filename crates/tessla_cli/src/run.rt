@@ -3,45 +3,40 @@
 ghost use Rattle.std.specs.Prelude.{◌≡◌, ◌<◌, ◌≤◌, ◌^◌, ℕ, List, false, length, IfOk, OnErr, OnOk, IsErrOf};
 ghost use Rattle.alias_rules.specs.Fine.{IsTakenPlan};
 ghost use Rattle.code_file.specs.Form.{HasSpelling};
-ghost use Rattle.command_words.specs.Words.{IsLimited, IsLimitedRun, command_of};
+ghost use Rattle.command_words.specs.Words.{IsLimited, command_of};
 ghost use Rattle.flat_core.specs.WellFormed.{IsWellFormed};
 ghost use Rattle.last_use.specs.Reasons.{AreReasons};
 ghost use Rattle.sample_trace.specs.Trace.{trace_text};
 ghost use Rattle.compiled_meaning.specs.Compiled.{CompilesSomething};
 ghost use Rattle.spec_lexer.specs.declared.limits.TheConstants.{MOST_SOURCE_BYTES};
-ghost use Rattle.trace_run.specs.Limited.{AreLimited};
 ghost use Rattle.tsl_world.specs.Standing.{at_first, is_open, is_writable};
 ghost use Rattle.tsl_world.specs.Runs.{Grows};
 ghost use Rattle.tsl_world.specs.World.{RoseBy};
 ghost use Rattle.tessla_cli.specs.Alone.{BenchStops, IsTallyText};
-ghost use Rattle.tessla_cli.specs.Asked.{options_of};
-ghost use Rattle.tessla_cli.specs.inner.RunPhases.{AloneEnds, Does, DoesAll, DoesAllAsked, DoesAsked, GivesName, GivesOrigin, HasPrinted};
-ghost use Rattle.tessla_cli.specs.inner.RunPhases.{HasPut, HasWritten, Monitors, OriginEnds, Prints, Puts, ReadsName, ReadsOrigin};
-ghost use Rattle.tessla_cli.specs.inner.RunPhases.{RunEnds, RunsAlone, RunsOrigin, RunsSource, RunsSpec, SourceEnds, SpecEnds};
+ghost use Rattle.tessla_cli.specs.inner.RunPhases.{AloneEnds, Does, DoesAll, DoesAllAsked, DoesAsked, GivesName, HasPut, HasWritten};
+ghost use Rattle.tessla_cli.specs.inner.RunPhases.{Prints, Puts, ReadsName, RunsAlone, RunsSource, RunsSpec, SourceEnds, SpecEnds};
 ghost use Rattle.tessla_cli.specs.Conduct.{MakesNothing};
 
 use crate::bench::outcome_of;
 use crate::ended::Ended;
 use crate::ending::{Ending, refused};
-use crate::file::read_file;
+use crate::file::{put_file, read_file};
 use crate::made::Made;
 use crate::print::text_of;
-use crate::program::{Loaded, load};
-use code_file::limits::MOST_CODE_BYTES;
-use command_words::command::{Command, Form, Origin, Run, Workload};
+use crate::put::put_made;
+use crate::trace::run_in_pieces;
+use crate::why::explain_in_pieces;
+use command_words::command::{Command, Form, Workload};
 use command_words::words::Words;
 use flat_compiler::compile::Compiled;
 use sample_trace::trace::sample_trace;
 use spec_compiler::compile::compile;
 use spec_lexer::limits::MOST_SOURCE_BYTES;
 use std::alloc::Global;
-use trace_monitor::options::Options;
 use trace_reader::limits::MOST_PIECE_BYTES;
-use trace_run::broken::Broken;
-use trace_run::run::run_code;
 use trace_run::write::write_all;
 use tsl_value::bytes::Bytes;
-use tsl_world::{Channel, Failed, Slot, World};
+use tsl_world::{Broken, Channel, Failed, Slot, World};
 
 /// Writes a text where those of a form go: to the file of the form, which is made for it, or to Out.
 fn put_text<W: World>(world: &mut W, form: &Form, text: &[u8]) -> Result<(), Failed>
@@ -53,10 +48,7 @@ fn put_text<W: World>(world: &mut W, form: &Form, text: &[u8]) -> Result<(), Fai
     ensures whole { OnOk result (Grows W.told W.journal world.old world.new (HasPut text.now form.now)) }
 {
     match form {
-        Form::File(name) => {
-            world.create(Channel::Code, name.as_str())?;
-            write_all(world, Channel::Code, text)
-        }
+        Form::File(name) => put_file(world, Channel::Code, name.as_str(), text),
         _ => write_all(world, Channel::Out, text),
     }
 }
@@ -116,52 +108,6 @@ fn write_source<W: World>(
     }
 }
 
-/// How far a run goes.
-fn options_of(run: &Run) -> Options
-    ensures options { result ≡ options_of run.now }
-    ensures limited { IsLimitedRun run.now → AreLimited result }
-{
-    Options {
-        until: run.until,
-        instants: run.instants,
-        bytes: run.bytes,
-        strict: run.strict,
-    }
-}
-
-/// Monitors the trace of a run by what comes of the bytes of its file.
-fn run_loaded<W: World>(
-    alloc: Global,
-    world: &mut W,
-    bytes: &[u8],
-    run: &Run,
-    buf: &mut [u8],
-) -> Result<Ended, Broken>
-    requires room { 0 < length buf.old }
-    requires short { length buf.old ≤ MOST_PIECE_BYTES }
-    requires stands { is_open (W.standing world.old) Slot.Trace ≡ false }
-    requires limited { IsLimitedRun run.now }
-    ensures ok { OnOk result (W.faults world.new ≡ W.faults world.old) }
-    ensures outside { IsErrOf result Broken.Outside → RoseBy 1 (W.faults world.old) (W.faults world.new) }
-    ensures memory { IsErrOf result Broken.Memory → W.faults world.new ≡ W.faults world.old }
-    ensures heard { W.unheard world.new ≡ W.unheard world.old }
-    ensures calls { Grows W.told W.journal world.old world.new (RunsSource (Monitors bytes.now run.now)) }
-    ensures ending { IfOk result (λ ended. Grows W.told W.journal world.old world.new (RunEnds bytes.now run.now ended)) }
-{
-    match load(alloc, &run.origin, bytes)? {
-        Loaded::Runs(code) => Ok(Ended::of(run_code(
-            alloc,
-            world,
-            &code,
-            run.trace.as_str(),
-            options_of(run),
-            run.stats,
-            buf,
-        )?)?),
-        Loaded::Stops(ending) => Ok(Ended::alone(alloc, ending)?),
-    }
-}
-
 /// Opens a specification and reads it.
 fn read_spec<W: World>(
     alloc: Global,
@@ -183,44 +129,6 @@ fn read_spec<W: World>(
         (GivesName Slot.Spec MOST_SOURCE_BYTES name.now source)) }
 {
     read_file(alloc, world, Slot::Spec, name, MOST_SOURCE_BYTES, buf)
-}
-
-/// Opens the file of what runs and reads it.
-fn read_origin<W: World>(
-    alloc: Global,
-    world: &mut W,
-    from: &Origin,
-    buf: &mut [u8],
-) -> Result<Bytes, Broken>
-    requires room { 0 < length buf.old }
-    requires short { length buf.old ≤ MOST_PIECE_BYTES }
-    requires stands { W.standing world.old ≡ at_first }
-    ensures ok { OnOk result (W.faults world.new ≡ W.faults world.old) }
-    ensures outside { IsErrOf result Broken.Outside → RoseBy 1 (W.faults world.old) (W.faults world.new) }
-    ensures memory { IsErrOf result Broken.Memory → W.faults world.new ≡ W.faults world.old }
-    ensures heard { W.unheard world.new ≡ W.unheard world.old }
-    ensures trace { OnOk result (is_open (W.standing world.new) Slot.Trace ≡ false) }
-    ensures calls { Grows W.told W.journal world.old world.new (ReadsOrigin from.now) }
-    ensures bytes { IfOk result (λ bytes. Grows W.told W.journal world.old world.new (GivesOrigin from.now bytes)) }
-{
-    match from {
-        Origin::Spec(spec) => read_file(
-            alloc,
-            world,
-            Slot::Spec,
-            spec.as_str(),
-            MOST_SOURCE_BYTES,
-            buf,
-        ),
-        Origin::Code(file) => read_file(
-            alloc,
-            world,
-            Slot::Code,
-            file.as_str(),
-            MOST_CODE_BYTES,
-            buf,
-        ),
-    }
 }
 
 /// Reads a specification and writes a text of it, by this buffer.
@@ -247,29 +155,6 @@ fn write_form<W: World>(
     write_source(alloc, world, source.as_slice(), form)
 }
 
-/// Reads the file of what runs and monitors a trace by it, with this buffer.
-fn run_trace<W: World>(
-    alloc: Global,
-    world: &mut W,
-    run: &Run,
-    buf: &mut [u8],
-) -> Result<Ended, Broken>
-    requires room { 0 < length buf.old }
-    requires short { length buf.old ≤ MOST_PIECE_BYTES }
-    requires stands { W.standing world.old ≡ at_first }
-    requires limited { IsLimitedRun run.now }
-    ensures ok { OnOk result (W.faults world.new ≡ W.faults world.old) }
-    ensures outside { IsErrOf result Broken.Outside → RoseBy 1 (W.faults world.old) (W.faults world.new) }
-    ensures memory { IsErrOf result Broken.Memory → W.faults world.new ≡ W.faults world.old }
-    ensures heard { W.unheard world.new ≡ W.unheard world.old }
-    ensures calls { Grows W.told W.journal world.old world.new (RunsOrigin run.now.origin (λ bytes. RunsSource (Monitors bytes run.now))) }
-    ensures ending { IfOk result (λ ended. Grows W.told W.journal world.old world.new
-        (OriginEnds run.now.origin (λ bytes. RunEnds bytes run.now ended))) }
-{
-    let bytes = read_origin(alloc, world, &run.origin, buf)?;
-    Ok(run_loaded(alloc, world, bytes.as_slice(), run, buf)?)
-}
-
 /// Writes a text of a specification, with a buffer of its own.
 fn write_in_pieces<W: World>(
     alloc: Global,
@@ -289,22 +174,6 @@ fn write_in_pieces<W: World>(
 {
     let mut buf = vec![in alloc; 0u8; MOST_PIECE_BYTES]?;
     Ok(write_form(alloc, world, spec, form, &mut buf)?)
-}
-
-/// Monitors a trace, with a buffer of its own.
-fn run_in_pieces<W: World>(alloc: Global, world: &mut W, run: &Run) -> Result<Ended, Broken>
-    requires stands { W.standing world.old ≡ at_first }
-    requires limited { IsLimitedRun run.now }
-    ensures ok { OnOk result (W.faults world.new ≡ W.faults world.old) }
-    ensures outside { IsErrOf result Broken.Outside → RoseBy 1 (W.faults world.old) (W.faults world.new) }
-    ensures memory { IsErrOf result Broken.Memory → W.faults world.new ≡ W.faults world.old }
-    ensures heard { W.unheard world.new ≡ W.unheard world.old }
-    ensures calls { Grows W.told W.journal world.old world.new (RunsOrigin run.now.origin (λ bytes. RunsSource (Monitors bytes run.now))) }
-    ensures ending { IfOk result (λ ended. Grows W.told W.journal world.old world.new
-        (OriginEnds run.now.origin (λ bytes. RunEnds bytes run.now ended))) }
-{
-    let mut buf = vec![in alloc; 0u8; MOST_PIECE_BYTES]?;
-    Ok(run_trace(alloc, world, run, &mut buf)?)
 }
 
 /// Writes the sample trace with so many lines.
@@ -339,13 +208,7 @@ fn tell_bench<W: World>(
     ensures ending { IfOk result (λ ended. Grows W.told W.journal world.old world.new
         (AloneEnds (IsTallyText kind lines) (BenchStops kind lines) ended)) }
 {
-    match outcome_of(alloc, kind, lines)? {
-        Made::Text(text) => {
-            write_all(world, Channel::Out, text.as_slice())?;
-            Ok(Ended::alone(alloc, Ending::Done)?)
-        }
-        Made::Stops(ending) => Ok(Ended::alone(alloc, ending)?),
-    }
+    put_made(alloc, world, outcome_of(alloc, kind, lines)?)
 }
 
 /// Does what a command asks for.
@@ -363,6 +226,7 @@ fn perform<W: World>(alloc: Global, world: &mut W, command: &Command) -> Result<
     match command {
         Command::Write { spec, form } => write_in_pieces(alloc, world, spec.as_str(), form),
         Command::Run(run) => run_in_pieces(alloc, world, run),
+        Command::Why(why) => explain_in_pieces(alloc, world, why),
         Command::Generate { lines } => generate(alloc, world, *lines),
         Command::Bench { kind, lines } => tell_bench(alloc, world, *kind, *lines),
     }

@@ -7,9 +7,8 @@ ghost use Rattle.tessla_cli.specs.Outcome.{TellsBroken, TellsEnding};
 
 use crate::ended::Ended;
 use crate::report::{broken_line, broken_status};
-use trace_run::broken::Broken;
 use trace_run::write::write_all;
-use tsl_world::{Channel, World};
+use tsl_world::{Broken, Channel, World};
 
 /// Tells on the standard error what cut a run short. The answer is the status.
 pub fn tell_broken<W: World>(world: &mut W, broken: Broken) -> u8

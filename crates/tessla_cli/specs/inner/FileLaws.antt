@@ -9,7 +9,7 @@ use Rattle.trace_monitor.specs.declared.ending.RunEnding.{RunEnding}
 use Rattle.trace_monitor.specs.declared.options.Options.{Options}
 use Rattle.trace_run.specs.Means.{EndsAs, IsDueAs}
 use Rattle.trace_run.specs.Program.{Program, coded, specified}
-use Rattle.tessla_cli.specs.Headline.{IsReadAs}
+use Rattle.tessla_cli.specs.Running.{IsReadAs}
 
 -- What one program is due and how it ends at these bytes of a trace, so another is due and ends.
 pub record MeansTheSame (p q : Program) (o : Options) (bytes : List ℕ) (ended : Bool) : Type 0 where

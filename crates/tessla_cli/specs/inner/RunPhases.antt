@@ -1,5 +1,5 @@
 -- The phases of a run, by what each adds to the journal.
-use Rattle.std.specs.Prelude.{◌≡◌, ◌⊎◌, ℕ, ◌<◌, ◌≤◌, Bool, true, false, List, [], ◌∷◌, ◌++◌, length, Option, Some, None}
+use Rattle.std.specs.Prelude.{◌≡◌, ◌⊎◌, ℕ, ◌<◌, ◌≤◌, true, false, List, [], ◌∷◌, ◌++◌, length, Option, Some, None, is_some}
 use Rattle.command_words.specs.declared.command.Command.{Command}
 use Rattle.command_words.specs.declared.command.Command.TheVariants as command
 use Rattle.command_words.specs.declared.command.Form.{Form}
@@ -7,6 +7,7 @@ use Rattle.command_words.specs.declared.command.Origin.{Origin}
 use Rattle.command_words.specs.declared.command.Origin.TheVariants as origin
 use Rattle.command_words.specs.declared.command.Form.TheVariants as form
 use Rattle.command_words.specs.declared.command.Run.{Run}
+use Rattle.command_words.specs.declared.command.Why.{Why}
 use Rattle.command_words.specs.declared.command.Workload.{Workload}
 use Rattle.flat_core.specs.System.{System}
 use Rattle.register_code.specs.Code.{Code}
@@ -15,20 +16,33 @@ use Rattle.code_file.specs.declared.limits.TheConstants.{MOST_CODE_BYTES}
 use Rattle.compiled_meaning.specs.Compiled.{Compiles, IsRefusedBy}
 use Rattle.compiled_meaning.specs.inner.Ready.{IsReady}
 use Rattle.spec_lexer.specs.declared.limits.TheConstants.{MOST_SOURCE_BYTES}
+use Rattle.slice_text.specs.Text.{HasOutput, IsOutputCalled}
 use Rattle.source_rules.specs.declared.fault.SpecFault.{SpecFault}
 use Rattle.syntax_tree.specs.Tree as tree
 use Rattle.trace_reader.specs.declared.limits.TheConstants.{MOST_PIECE_BYTES}
 use Rattle.trace_run.specs.declared.run.Ran.{Ran}
-use Rattle.trace_run.specs.Effects.{CodeEnds, RunsSystem, Writes}
+use Rattle.trace_run.specs.declared.start.Start.{Start}
+use Rattle.trace_run.specs.declared.start.Start.TheVariants as start
+use Rattle.run_state.specs.Fits.{FitsRun}
+use Rattle.run_state.specs.Spelling.{spelling}
+use Rattle.run_state.specs.declared.state.RunState.{RunState}
+use Rattle.state_snapshot.specs.declared.fault.StateFault.{StateFault}
+use Rattle.trace_run.specs.Effects.{CodeEnds, RunsCode, Writes}
 use Rattle.trace_run.specs.Program.{IsCodeOf, Program, coded, specified}
+use Rattle.trace_why.specs.declared.ending.WhyEnding.{WhyEnding}
+use Rattle.trace_why.specs.declared.ending.WhyEnding.TheVariants as answer
+use Rattle.trace_why.specs.declared.question.Question.{Question}
 use Rattle.tsl_world.specs.Begins.{Begins}
+use Rattle.tsl_world.specs.declared.outside.Channel.{Channel}
 use Rattle.tsl_world.specs.declared.outside.Channel.TheVariants as channel
 use Rattle.tsl_world.specs.declared.outside.Channel.TheVariants.{Out}
 use Rattle.tsl_world.specs.declared.outside.Did.{Did}
 use Rattle.tsl_world.specs.declared.outside.Did.TheVariants.{Created, NotCreated, Opened, NotOpened, NotTook, Took}
 use Rattle.tsl_world.specs.declared.outside.Slot.{Slot}
-use Rattle.tsl_world.specs.declared.outside.Slot.TheVariants.{Spec}
+use Rattle.tsl_world.specs.declared.outside.Slot.TheVariants.{Spec, State}
 use Rattle.tsl_world.specs.Journal.{given, taken, ended, AtReads, IsDone, Each, StopsAtFailure}
+use Rattle.tessla_cli.specs.declared.begun.Begun.{Begun}
+use Rattle.tessla_cli.specs.declared.begun.Begun.TheVariants as begun
 use Rattle.tessla_cli.specs.declared.ended.Ended.{Ended}
 use Rattle.tessla_cli.specs.declared.ending.Ending.{Ending}
 use Rattle.tessla_cli.specs.declared.ending.Ending.TheVariants as ending
@@ -37,11 +51,14 @@ use Rattle.tessla_cli.specs.declared.made.Made.TheVariants as made
 use Rattle.tessla_cli.specs.Alone.{BenchStops, IsTallyText}
 use Rattle.tessla_cli.specs.declared.program.Loaded.{Loaded}
 use Rattle.tessla_cli.specs.declared.program.Loaded.TheVariants as loaded
-use Rattle.tessla_cli.specs.Asked.{options_of, origin_file}
-use Rattle.tessla_cli.specs.Causes.{Refuses}
+use Rattle.tessla_cli.specs.declared.limits.TheConstants.{MOST_STATE_BYTES}
+use Rattle.tessla_cli.specs.Asked.{options_of, origin_file, why_options}
+use Rattle.tessla_cli.specs.Causes.{IsStateFault, Refuses}
 use Rattle.tessla_cli.specs.Endings.{ending_of}
-use Rattle.tessla_cli.specs.Headline.{IsReadAs}
+use Rattle.tessla_cli.specs.Explained.{answer_text, answered, question_of}
+use Rattle.tessla_cli.specs.Running.{IsReadAs}
 use Rattle.tessla_cli.specs.Messages.{ending_line}
+use Rattle.why_run.specs.Effects.{AskEnds, AsksTrace}
 use Rattle.tessla_cli.specs.Printed.{HasText, IsTextOf, RefusesForm, channel_of}
 
 -- how a run ends is told by this text and then the line of the ending
@@ -95,18 +112,25 @@ pub record HasPrintedText (P : List ℕ → Type 0) (part : List Did) : Type 0 w
   pub writes : Writes Out part
   pub whole : given Out part ≡ text
 
+-- a file is made and a text is given to it, as far as it comes
+pub data PutsFile (to : Channel) (name text : List ℕ) : List Did → Type 0 where
+  no_file_made : PutsFile to name text (NotCreated to name ∷ [])
+  file_made : (part : List Did) → Writes to part → Begins (given to part) text → PutsFile to name text (Created to name ∷ part)
+
+-- all of it
+pub data HasPutFile (to : Channel) (name text : List ℕ) : List Did → Type 0 where
+  has_put_all : (part : List Did) → Writes to part → Each IsDone part → given to part ≡ text
+      → HasPutFile to name text (Created to name ∷ part)
+
 -- a text of a form goes where those of the form do, as far as it comes: to Out, or to the file of the form, which is made for it
 pub data Puts (text : List ℕ) : Form → List Did → Type 0 where
   puts_out : {f : Form} (part : List Did) → channel_of f ≡ Out → Writes Out part → Begins (given Out part) text → Puts text f part
-  no_file_made : {name : List ℕ} → Puts text (form.File name) (NotCreated channel.Code name ∷ [])
-  puts_file : {name : List ℕ} (part : List Did) → Writes channel.Code part → Begins (given channel.Code part) text
-      → Puts text (form.File name) (Created channel.Code name ∷ part)
+  puts_file : {name : List ℕ} (part : List Did) → PutsFile channel.Code name text part → Puts text (form.File name) part
 
 -- all of it
 pub data HasPut (text : List ℕ) : Form → List Did → Type 0 where
   has_put_out : {f : Form} (part : List Did) → channel_of f ≡ Out → Writes Out part → given Out part ≡ text → HasPut text f part
-  has_put_file : {name : List ℕ} (part : List Did) → Writes channel.Code part → given channel.Code part ≡ text
-      → HasPut text (form.File name) (Created channel.Code name ∷ part)
+  has_put_file : {name : List ℕ} (part : List Did) → HasPutFile channel.Code name text part → HasPut text (form.File name) part
 
 -- the text that a source has in a form
 pub record Prints (source : List ℕ) (f : Form) (part : List Did) : Type 0 where
@@ -167,41 +191,6 @@ abbrev pub IsLoadedAs : Origin → List ℕ → Loaded → Type 0
 IsLoadedAs from bytes (loaded.Runs c) = IsLoadedCode from bytes c
 IsLoadedAs from bytes (loaded.Stops by) = Refuses from bytes by
 
--- the trace of a run is monitored
-pub record Monitors (bytes : List ℕ) (r : Run) (part : List Did) : Type 0 where
-  pub code : Code
-  pub loaded_so : IsLoadedCode r.origin bytes code
-  pub runs : RunsSystem r.trace code.system (options_of r) part
-
-pub record HasMonitored (bytes : List ℕ) (r : Run) (by : Ended) (part : List Did) : Type 0 where
-  pub code : Code
-  pub loaded_so : IsLoadedCode r.origin bytes code
-  pub ran : Ran
-  pub ending : by.ending ≡ ending_of ran.ending
-  pub told : IsToldAfter ran.statistics by
-  pub ends : CodeEnds r.trace code (options_of r) r.stats ran part
-
--- or nothing runs
-pub data RunEnds (bytes : List ℕ) (r : Run) (by : Ended) (part : List Did) : Type 0 where
-  nothing_runs : Refuses r.origin bytes by.ending → IsToldAfter [] by → part ≡ [] → RunEnds bytes r by part
-  has_run : HasMonitored bytes r by part → RunEnds bytes r by part
-
--- something stands against a text of a form
-pub record IsAgainst (source : List ℕ) (f : Form) (by : Ending) : Type 0 where
-  pub items : List tree.Item
-  pub system : System
-  pub compiles : Compiles source items system
-  pub refuses : RefusesForm f system by
-
--- a text is written, or something stands against it and the program ends so
-pub data IsWritten (source : List ℕ) (f : Form) (by : Ending) (part : List Did) : Type 0 where
-  all_written : by ≡ ending.Done → HasPrinted source f part → IsWritten source f by part
-  none_written : IsAgainst source f by → part ≡ [] → IsWritten source f by part
-
-pub record HasWritten (source : List ℕ) (f : Form) (by : Ended) (part : List Did) : Type 0 where
-  pub told : IsToldAfter [] by
-  pub done : IsWritten source f by.ending part
-
 -- a file is opened by its name and read
 pub data ReadsName (from : Slot) (most : ℕ) (name : List ℕ) : List Did → Type 0 where
   unopened : ReadsName from most name []
@@ -229,6 +218,162 @@ pub data FileEnds (from : Slot) (most : ℕ) (name : List ℕ) (W : List ℕ →
       → GivesFile from most bytes reads
       → W bytes rest
       → FileEnds from most name W (Opened from name ∷ (reads ++ rest))
+
+-- these bytes of the file of a state are one that the code can go on from, and a run begins so
+pub record IsResumed (c : Code) (until : ℕ) (bytes : List ℕ) (begins : Start) : Type 0 where
+  pub short : length bytes ≤ MOST_STATE_BYTES
+  pub state : RunState
+  pub fits : FitsRun c.system state
+  pub is : bytes ≡ spelling c state
+  pub begins_so : begins ≡ start.Resumed until state
+
+-- what comes of them: how a run begins, or the ending where none does
+abbrev pub IsBegunAs : Code → ℕ → List ℕ → Begun → Type 0
+IsBegunAs c until bytes (begun.Starts begins) = IsResumed c until bytes begins
+IsBegunAs c until bytes (begun.Stops by) = (fault : StateFault) × (by ≡ ending.State fault) × IsStateFault c bytes fault
+
+-- The trace of a run that begins so is monitored, and the state that is left goes to its file, as far as it comes.
+pub data RunsFrom (r : Run) (c : Code) (begins : Start) (part : List Did) : Type 0 where
+  monitors : RunsCode r.trace c begins (is_some r.save) part → RunsFrom r c begins part
+  saves : (ran : Ran) (file state : List ℕ) (front rest : List Did) → CodeEnds r.trace c begins (is_some r.save) r.stats ran front
+      → r.save ≡ Some file → ran.state ≡ Some state → PutsFile channel.State file state rest → part ≡ front ++ rest
+      → RunsFrom r c begins part
+
+-- what is left of a run goes to its file, as far as it comes; where it has no file, or nothing is left, nothing is done
+abbrev pub SavesTo : Option (List ℕ) → Option (List ℕ) → List Did → Type 0
+SavesTo (Some file) (Some state) part = PutsFile channel.State file state part
+SavesTo file left part = part ≡ []
+
+-- all of it
+pub data HasSavedTo : Option (List ℕ) → Option (List ℕ) → List Did → Type 0 where
+  nothing_saved : {file : Option (List ℕ)} → HasSavedTo file None []
+  has_saved : {file state : List ℕ} (part : List Did) → HasPutFile channel.State file state part → HasSavedTo (Some file) (Some state) part
+
+-- and it has ended so
+pub record HasRunFrom (r : Run) (c : Code) (begins : Start) (by : Ended) (part : List Did) : Type 0 where
+  pub ran : Ran
+  pub ending : by.ending ≡ ending_of ran.ending
+  pub told : IsToldAfter ran.statistics by
+  pub front : List Did
+  pub rest : List Did
+  pub ends : CodeEnds r.trace c begins (is_some r.save) r.stats ran front
+  pub saved : HasSavedTo r.save ran.state rest
+  pub is : part ≡ front ++ rest
+
+-- a run goes on from the bytes of the file of its state
+pub record RunsResumed (r : Run) (c : Code) (bytes : List ℕ) (part : List Did) : Type 0 where
+  pub begins : Start
+  pub resumed : IsResumed c r.until bytes begins
+  pub runs : RunsFrom r c begins part
+
+-- or it does not
+pub data ResumedEnds (r : Run) (c : Code) (by : Ended) (bytes : List ℕ) (part : List Did) : Type 0 where
+  state_refused : (fault : StateFault) → by.ending ≡ ending.State fault → IsStateFault c bytes fault → IsToldAfter [] by → part ≡ []
+      → ResumedEnds r c by bytes part
+  has_resumed : (begins : Start) → IsResumed c r.until bytes begins → HasRunFrom r c begins by part → ResumedEnds r c by bytes part
+
+-- what a run does by its code: the state that it goes on from is read first, where the words name one
+abbrev pub RunsSince : Option (List ℕ) → Run → Code → List Did → Type 0
+RunsSince None r c part = RunsFrom r c (start.Anew (options_of r)) part
+RunsSince (Some file) r c part = RunsFile State MOST_STATE_BYTES file (λ bytes. RunsSource (RunsResumed r c bytes)) part
+
+abbrev pub EndsSince : Option (List ℕ) → Run → Code → Ended → List Did → Type 0
+EndsSince None r c by part = HasRunFrom r c (start.Anew (options_of r)) by part
+EndsSince (Some file) r c by part = FileEnds State MOST_STATE_BYTES file (ResumedEnds r c by) part
+
+-- the trace of a run is monitored
+pub record Monitors (bytes : List ℕ) (r : Run) (part : List Did) : Type 0 where
+  pub code : Code
+  pub loaded_so : IsLoadedCode r.origin bytes code
+  pub runs : RunsSince r.resume r code part
+
+pub record HasMonitored (bytes : List ℕ) (r : Run) (by : Ended) (part : List Did) : Type 0 where
+  pub code : Code
+  pub loaded_so : IsLoadedCode r.origin bytes code
+  pub ends : EndsSince r.resume r code by part
+
+-- or nothing runs
+pub data RunEnds (bytes : List ℕ) (r : Run) (by : Ended) (part : List Did) : Type 0 where
+  nothing_runs : Refuses r.origin bytes by.ending → IsToldAfter [] by → part ≡ [] → RunEnds bytes r by part
+  has_run : HasMonitored bytes r by part → RunEnds bytes r by part
+
+-- something stands against a text of a form
+pub record IsAgainst (source : List ℕ) (f : Form) (by : Ending) : Type 0 where
+  pub items : List tree.Item
+  pub system : System
+  pub compiles : Compiles source items system
+  pub refuses : RefusesForm f system by
+
+-- a text is written, or something stands against it and the program ends so
+pub data IsWritten (source : List ℕ) (f : Form) (by : Ending) (part : List Did) : Type 0 where
+  all_written : by ≡ ending.Done → HasPrinted source f part → IsWritten source f by part
+  none_written : IsAgainst source f by → part ≡ [] → IsWritten source f by part
+
+pub record HasWritten (source : List ℕ) (f : Form) (by : Ended) (part : List Did) : Type 0 where
+  pub told : IsToldAfter [] by
+  pub done : IsWritten source f by.ending part
+
+-- the question that the words ask of a compiled specification
+pub record IsAsked (source : List ℕ) (w : Why) (s : System) (q : Question) : Type 0 where
+  pub items : List tree.Item
+  pub compiles : Compiles source items s
+  pub number : ℕ
+  pub called : IsOutputCalled s w.output number
+  pub question : q ≡ question_of w number
+
+-- no output has the name
+pub record AsksNothing (source : List ℕ) (w : Why) : Type 0 where
+  pub items : List tree.Item
+  pub system : System
+  pub compiles : Compiles source items system
+  pub none : HasOutput system w.output → ⊥
+
+-- what comes of an answer: a text to be written, or how the program ends
+abbrev pub IsAnsweredAs : Why → WhyEnding → Made → Type 0
+IsAnsweredAs w (answer.Text text) (made.Text put) = put ≡ text
+IsAnsweredAs w by (made.Stops how) = (how ≡ answered w by) × (answer_text by ≡ [])
+IsAnsweredAs w by how = ⊥
+
+-- what is made is put on Out, as far as it comes
+abbrev pub PutsMade : Made → List Did → Type 0
+PutsMade (made.Text text) part = Writes Out part × Begins (given Out part) text
+PutsMade (made.Stops by) part = part ≡ []
+
+-- all of it, and the program ends so
+abbrev pub IsPutAs : Made → Ending → List Did → Type 0
+IsPutAs (made.Text text) by part = (by ≡ ending.Done) × Writes Out part × (given Out part ≡ text)
+IsPutAs (made.Stops how) by part = (by ≡ how) × (part ≡ [])
+
+pub record HasPutMade (put : Made) (by : Ended) (part : List Did) : Type 0 where
+  pub told : IsToldAfter [] by
+  pub done : IsPutAs put by.ending part
+
+-- a question is asked of a trace and answered, as far as it comes
+pub data Explains (source : List ℕ) (w : Why) (part : List Did) : Type 0 where
+  asking : (s : System) (q : Question) → IsAsked source w s q → AsksTrace w.trace s (why_options w) q part → Explains source w part
+  answering : (s : System) (q : Question) (by : WhyEnding) (front rest : List Did)
+      → IsAsked source w s q
+      → AskEnds w.trace s (why_options w) q by front
+      → Writes Out rest
+      → Begins (given Out rest) (answer_text by)
+      → part ≡ front ++ rest
+      → Explains source w part
+
+-- all of it
+pub data IsExplained (source : List ℕ) (w : Why) (by : Ending) (part : List Did) : Type 0 where
+  no_output : by ≡ ending.NoOutput w.output → AsksNothing source w → part ≡ [] → IsExplained source w by part
+  has_answered : (s : System) (q : Question) (how : WhyEnding) (front rest : List Did)
+      → IsAsked source w s q
+      → AskEnds w.trace s (why_options w) q how front
+      → by ≡ answered w how
+      → Writes Out rest
+      → given Out rest ≡ answer_text how
+      → part ≡ front ++ rest
+      → IsExplained source w by part
+
+pub record HasExplained (source : List ℕ) (w : Why) (by : Ended) (part : List Did) : Type 0 where
+  pub told : IsToldAfter [] by
+  pub done : IsExplained source w by.ending part
 
 -- so it is with a specification
 abbrev pub RunsSpec : List ℕ → (List ℕ → List Did → Type 0) → List Did → Type 0
@@ -258,6 +403,7 @@ OriginEnds from = FileEnds (origin_file from).0 (most_from from) (origin_file fr
 abbrev pub Does : Command → List Did → Type 0
 Does (command.Write spec f) = RunsSpec spec (λ source. RunsSource (Prints source f))
 Does (command.Run r) = RunsOrigin r.origin (λ bytes. RunsSource (Monitors bytes r))
+Does (command.Why w) = RunsSpec w.spec (λ source. RunsSource (Explains source w))
 Does (command.Generate n) = RunsAlone (λ text. text ≡ trace_text n)
 Does (command.Bench kind n) = RunsAlone (IsTallyText kind n)
 
@@ -269,6 +415,7 @@ pub record AloneEnds (P : List ℕ → Type 0) (S : Ending → Type 0) (by : End
 abbrev pub DoesAll : Command → Ended → List Did → Type 0
 DoesAll (command.Write spec f) by = SpecEnds spec (λ source. SourceEnds source (HasWritten source f by) by)
 DoesAll (command.Run r) by = OriginEnds r.origin (λ bytes. RunEnds bytes r by)
+DoesAll (command.Why w) by = SpecEnds w.spec (λ source. SourceEnds source (HasExplained source w by) by)
 DoesAll (command.Generate n) by = AloneEnds (λ text. text ≡ trace_text n) (λ by. ⊥) by
 DoesAll (command.Bench kind n) by = AloneEnds (IsTallyText kind n) (BenchStops kind n) by
 

@@ -20,11 +20,6 @@ returns-in-Write-clause-ending g c =
     IfOk-weaker c.write_in_pieces.result _ _
     (λ ended ends. subst (λ (asked : Command). Grows g.W.World.told g.W.World.journal c.args.world.now c.write_in_pieces.new.world (DoesAll asked ended)) (sym c.in-Write.is) ends) all
 
-pub returns-in-Run-clause-unmade : goal.returns-in-Run-clause-unmade
-returns-in-Run-clause-unmade g c = λ e.
-    let asked = command.Run c.in-Run.run' in
-    grows_weaker g.W.World.told g.W.World.journal c.args.world.now c.run_in_pieces.new.world (Does asked) MakesNothing c.run_in_pieces.ensures.calls (λ p. nothing_made asked p refl)
-
 pub returns-in-Generate-clause-unmade : goal.returns-in-Generate-clause-unmade
 returns-in-Generate-clause-unmade g c = λ e.
     let asked = command.Generate c.in-Generate.lines in
@@ -34,3 +29,8 @@ pub returns-in-Bench-clause-unmade : goal.returns-in-Bench-clause-unmade
 returns-in-Bench-clause-unmade g c = λ e.
     let asked = command.Bench c.in-Bench.kind c.in-Bench.lines in
     grows_weaker g.W.World.told g.W.World.journal c.args.world.now c.tell_bench.new.world (Does asked) MakesNothing c.tell_bench.ensures.calls (λ p. nothing_made asked p refl)
+
+pub returns-in-Why-clause-unmade : goal.returns-in-Why-clause-unmade
+returns-in-Why-clause-unmade g c = λ e.
+    let asked = command.Why c.in-Why.why in
+    grows_weaker g.W.World.told g.W.World.journal c.args.world.now c.explain_in_pieces.new.world (Does asked) MakesNothing c.explain_in_pieces.ensures.calls (λ p. nothing_made asked p refl)

@@ -3,8 +3,8 @@ use Rattle.spec_lexer.specs.declared.limits.TheConstants.{MOST_SOURCE_BYTES}
 use Rattle.tsl_world.specs.declared.outside.Slot.TheVariants.{Spec}
 use Rattle.tessla_cli.specs.Conduct.{MakesNothing}
 use Rattle.tessla_cli.specs.inner.RunPhases.{GivesName, HasWritten, Prints, ReadsName, RunsSource, RunsSpec, SourceEnds, SpecEnds, unread}
-use Rattle.tessla_cli.proofs.Shown.{front_makes_none, joins_unmade}
 use Rattle.tessla_cli.proofs.Phases.{joins_ends, joins_runs}
+use Rattle.tessla_cli.proofs.Saving.{file_makes_none, name_makes_none}
 use Rattle.tsl_world.proofs.Runs.{grows_on, grows_weaker}
 use Rattle.tessla_cli.proofs.run.write_form.Goals as goal
 
@@ -16,7 +16,7 @@ returns-in_err-source-clause-calls g c =
 pub returns-in_err-source-clause-unmade : goal.returns-in_err-source-clause-unmade
 returns-in_err-source-clause-unmade g c = λ e.
     grows_weaker g.W.World.told g.W.World.journal c.args.world.now c.read_spec.new.world (ReadsName Spec MOST_SOURCE_BYTES c.args.spec.now) MakesNothing c.read_spec.ensures.calls
-    (λ p r. front_makes_none c.args.spec.now p r)
+    (λ p r. name_makes_none Spec MOST_SOURCE_BYTES c.args.spec.now p r)
 
 pub returns-clause-calls : goal.returns-clause-calls
 returns-clause-calls g c =
@@ -30,7 +30,7 @@ pub returns-clause-unmade : goal.returns-clause-unmade
 returns-clause-unmade g c = λ e.
     let source = c.in_ok-source.source in
     grows_on g.W.World.told g.W.World.journal c.args.world.now c.read_spec.new.world c.write_source.new.world (GivesName Spec MOST_SOURCE_BYTES c.args.spec.now source) MakesNothing MakesNothing c.in_ok-source.ensures.source (c.write_source.ensures.unmade e)
-    (λ p q r t. joins_unmade c.args.spec.now source p q r t)
+    (λ p q r t. file_makes_none Spec MOST_SOURCE_BYTES c.args.spec.now source p q r t)
 
 pub returns-clause-ending : goal.returns-clause-ending
 returns-clause-ending g c =

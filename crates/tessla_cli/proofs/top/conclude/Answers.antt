@@ -1,6 +1,6 @@
 use Rattle.std.proofs.Common.{◌≡◌, ap, Err}
-use Rattle.trace_run.specs.declared.broken.Broken.{Broken}
-use Rattle.trace_run.specs.declared.broken.Broken.TheVariants.{Memory}
+use Rattle.tsl_world.specs.declared.broken.Broken.{Broken}
+use Rattle.tsl_world.specs.declared.broken.Broken.TheVariants.{Memory}
 use Rattle.tessla_cli.specs.Conduct.{MakesNothing}
 use Rattle.tsl_world.proofs.Runs.{grows_on, grows_run}
 use Rattle.tessla_cli.specs.Failures.{failures}
