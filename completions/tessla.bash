@@ -21,23 +21,32 @@ _tessla_specification() {
     _tessla_take < <(compgen -f -X '!*.tsl' -- "$1"; compgen -d -- "$1")
 }
 
+# Takes all files.
+_tessla_file() {
+    compopt -o filenames 2>/dev/null
+    _tessla_take < <(compgen -f -- "$1")
+}
+
 _tessla() {
     local word=${COMP_WORDS[COMP_CWORD]} before=${COMP_WORDS[COMP_CWORD - 1]} command=${COMP_WORDS[1]-}
     COMPREPLY=()
     if [ "$COMP_CWORD" -eq 1 ]; then
-        _tessla_words "$word" run check flat slice show code compile exec gen bench lint test picture page install package help --help --version
+        _tessla_words "$word" run check flat slice why show code compile exec gen bench state explain lint test picture page install package help --help --version
         return
     fi
     case $before in
     --until | --instants | --bytes) return ;;
+    --save | --resume)
+        _tessla_file "$word"
+        return
+        ;;
     esac
     case $command in
     run | exec)
         if [[ $word == -* ]]; then
-            _tessla_words "$word" --until --instants --bytes --strict --stats
+            _tessla_words "$word" --until --instants --bytes --strict --stats --save --resume
         else
-            compopt -o filenames 2>/dev/null
-            _tessla_take < <(compgen -f -- "$word")
+            _tessla_file "$word"
         fi
         ;;
     check | flat | show | code | lint) _tessla_specification "$word" ;;
@@ -51,12 +60,29 @@ _tessla() {
     slice)
         if [ "$COMP_CWORD" -eq 2 ]; then _tessla_specification "$word"; fi
         ;;
+    why | explain)
+        if [[ $word == -* && $command = explain ]]; then
+            _tessla_words "$word" --instants --bytes --strict --all
+        elif [[ $word == -* ]]; then
+            _tessla_words "$word" --instants --bytes --strict
+        elif [ "$COMP_CWORD" -eq 2 ]; then
+            _tessla_specification "$word"
+        elif [ "$COMP_CWORD" -eq 3 ]; then
+            _tessla_file "$word"
+        fi
+        ;;
     compile)
         if [ "$COMP_CWORD" -eq 2 ]; then
             _tessla_specification "$word"
         else
-            compopt -o filenames 2>/dev/null
-            _tessla_take < <(compgen -f -- "$word")
+            _tessla_file "$word"
+        fi
+        ;;
+    state)
+        if [[ $word == -* ]]; then
+            _tessla_words "$word" --code
+        else
+            _tessla_file "$word"
         fi
         ;;
     gen | bench)
@@ -64,10 +90,7 @@ _tessla() {
             _tessla_words "$word" seen copy
         fi
         ;;
-    page)
-        compopt -o filenames 2>/dev/null
-        _tessla_take < <(compgen -f -- "$word")
-        ;;
+    page) _tessla_file "$word" ;;
     test | install | package)
         if [[ $command = test && $word == -* ]]; then
             _tessla_words "$word" --bless

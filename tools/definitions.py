@@ -277,16 +277,24 @@ class Library:
                     raise NotFound(f"{file.path}:{number}: {word} is neither imported nor of the file")
             yield from self.cited(line, file.imports, file.by_name, module, definition.parameters())
 
-    def own_cited_by(self, definition):
-        """The definitions that a definition cites, with the names. A variable may have the name of a field: that cites nothing."""
+    def is_of_code(self, module):
+        return bool({"declared", "contracts"} & set(module.split(".")))
+
+    def cited_here(self, definition):
+        """The names that a definition cites, as (module, name). A variable may have the name of a field: that cites nothing."""
         text = "\n".join([*definition.around, *definition.text])
         for module, name in self.cited_by(self.module_of(definition), definition):
-            if not self.is_own(module) or {"declared", "contracts"} & set(module.split(".")):
-                continue
-            cited = self.definition(module, name)
-            field = re.escape(name)
-            if cited.kind != "record" or name == cited.name or re.search(rf"\.{field}(?![^\s).,;])|[{{;]\s+{field} =", text):
-                yield cited, name
+            if self.is_own(module) and not self.is_of_code(module):
+                cited, field = self.definition(module, name), re.escape(name)
+                if cited.kind == "record" and name != cited.name and not re.search(rf"\.{field}(?![^\s).,;])|[{{;]\s+{field} =", text):
+                    continue
+            yield module, name
+
+    def own_cited_by(self, definition):
+        """The definitions that a definition cites, with the names."""
+        for module, name in self.cited_here(definition):
+            if self.is_own(module) and not self.is_of_code(module):
+                yield self.definition(module, name), name
 
     def reach(self, names):
         reached, seen, todo = Reached(), set(), list(names)
@@ -306,7 +314,7 @@ class Library:
                 definition = self.definition(module, name)
                 if definition not in reached.definitions:
                     reached.definitions.add(definition)
-                    todo.extend(self.cited_by(self.module_of(definition), definition))
+                    todo.extend(self.cited_here(definition))
         return reached
 
     def module_of(self, definition):

@@ -2,7 +2,7 @@
 
 /** What a fragment may have once it is unpacked, in bytes: a small one may unpack to a thousand times as much. */
 const MOST_UNPACKED = 8_000_000;
-const FIELDS = ["spec", "trace", "command", "output", "until", "strict", "stats"];
+const FIELDS = ["spec", "trace", "command", "output", "time", "until", "strict", "stats"];
 
 /** Bytes as a stream makes them of others, at most so many. */
 async function through(bytes, stream, most = Infinity) {

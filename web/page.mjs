@@ -48,7 +48,9 @@ function question() {
   const command = at("command").value;
   const words = command === "run" ? ["run", ...NAMES] : [command, NAMES[0]];
   // After -- all words are names.
-  if (command === "slice") words.splice(1, 1, "--", NAMES[0], at("name").value || firstOutputOf(sources.spec.whole));
+  const asked = at("name").value || firstOutputOf(sources.spec.whole);
+  if (command === "slice") words.splice(1, 1, "--", NAMES[0], asked);
+  if (command === "why") words.splice(1, 1, "--", ...NAMES, asked, at("time").value || "0");
   if (command === "run" && at("until").value) words.push("--until", at("until").value);
   for (const option of ["strict", "stats"]) if (command === "run" && at(option).checked) words.push(`--${option}`);
   return { words, spec: sources.spec.bytes, trace: sources.trace.bytes };
@@ -61,6 +63,7 @@ function state() {
     trace: sources.trace.text,
     command: at("command").value,
     output: at("name").value,
+    time: at("time").value,
     until: at("until").value,
     strict: checked("strict"),
     stats: checked("stats"),
@@ -72,7 +75,7 @@ function put(given) {
   const commands = [...at("command").options].map(it => it.value);
   at("command").value = commands.includes(given.command) ? given.command : "run";
   at("name").value = given.output ?? "";
-  at("until").value = /^[0-9]{0,19}$/.test(given.until ?? "") ? (given.until ?? "") : "";
+  for (const name of ["time", "until"]) at(name).value = /^[0-9]{0,19}$/.test(given[name] ?? "") ? (given[name] ?? "") : "";
   for (const option of ["strict", "stats"]) at(option).checked = given[option] === "yes";
   note("");
   soon(0);
@@ -113,8 +116,7 @@ async function run() {
   hideBar();
   const asked = question();
   say("running");
-  for (const command of ["run", "slice"])
-    for (const it of document.querySelectorAll(`.of-${command}`)) it.classList.toggle("unused", asked.words[0] !== command);
+  for (const it of document.querySelectorAll("header [class^=of-]")) it.classList.toggle("unused", !it.classList.contains(`of-${asked.words[0]}`));
   let got;
   try {
     got = await asking.ask(asked.words, asked.spec, asked.trace, { seconds: Number(at("limit").value), tells: foretold });
@@ -146,7 +148,7 @@ function show(asked, { status, out, err, took }) {
   const [text, told] = [decode(out), decode(err)];
   output = out;
   const meaning = helped(meaningOf(tables, status, told));
-  say(`status ${status}: ${STATUSES[status] ?? "unknown"}, ${Math.round(took)} ms`, status === 0 ? "good" : "bad");
+  say(`status ${status}: ${told.startsWith("no event of ") ? "the output has no event then" : STATUSES[status] ?? "unknown"}, ${Math.round(took)} ms`, status === 0 ? "good" : "bad");
   at("output").textContent = shown(text, MOST_SHOWN);
   showMessage(told, meaning);
   sources.spec.editor.show(meaning.spec ?? null);

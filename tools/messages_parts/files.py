@@ -15,14 +15,24 @@ class Source:
     def __init__(self, name):
         self.name = name
         self.descriptor = None
+        # A trace that goes on stands behind so many lines, and behind the beginning of its first one, which is None where it is not known.
+        self.before, self.begun = 0, b""
         # Of the standard input the program reads what is left. Lines are counted only where that is all of it.
         if name == "-" and self.is_regular() and os.lseek(0, 0, os.SEEK_CUR) == 0:
             self.descriptor = 0
 
+    def found(self):
+        return os.fstat(0) if self.name == "-" else os.stat(self.name)
+
     def is_regular(self):
         with contextlib.suppress(OSError):
-            found = os.fstat(0) if self.name == "-" else os.stat(self.name)
-            return stat.S_ISREG(found.st_mode)
+            return stat.S_ISREG(self.found().st_mode)
+        return False
+
+    def is_file(self, name):
+        """Whether it is the file of that name, by whatever name."""
+        with contextlib.suppress(OSError):
+            return os.path.samestat(self.found(), os.stat(name))
         return False
 
     def opened(self):
@@ -33,14 +43,14 @@ class Source:
         return self.descriptor
 
     def line(self, number):
-        """The line of that number, or as much of it as is read, or None."""
-        file = self.opened()
-        if file is None:
+        """The line of that number, or as much of it as is read, or None. Those count that stand before the file."""
+        file, own = self.opened(), number - self.before
+        if file is None or own < 1 or self.begun is None:
             return None
         with contextlib.suppress(OSError):
-            at = start_of(file, number)
+            at = start_of(file, own)
             if at is not None:
-                return os.pread(file, LINE, at).split(b"\n")[0].rstrip(b"\r")
+                return ((self.begun if own == 1 else b"") + os.pread(file, LINE, at)).split(b"\n")[0].rstrip(b"\r")
         return None
 
     def head(self, size):
@@ -58,7 +68,7 @@ class Source:
     def failure(self):
         """Why it can't be read, or None."""
         try:
-            mode = (os.fstat(0) if self.name == "-" else os.stat(self.name)).st_mode
+            mode = self.found().st_mode
             if stat.S_ISDIR(mode):
                 return os.strerror(errno.EISDIR)
             if self.name == "-":
@@ -75,7 +85,7 @@ class Source:
 
 
 def failure_of_making(name):
-    """Why a file of that name can't be made. Nothing is made or changed for that, and of a pipe or a device it is not known."""
+    """Why a file of that name can't be made, or None. Nothing is made or changed for that, and of a pipe or a device it is not known."""
     try:
         # What is no folder has nothing below it.
         os.stat(os.path.join(os.path.dirname(name) or os.curdir, ""))
@@ -89,7 +99,7 @@ def failure_of_making(name):
             return os.strerror(errno.ENOSPC)
     except OSError as error:
         return error.strerror
-    return "it cannot be written"
+    return None
 
 
 def start_of(file, number):

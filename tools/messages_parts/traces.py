@@ -23,10 +23,13 @@ def inputs(spec):
     return inputs_of(text_of(data)) if len(data) <= SOURCE else {}
 
 
-def unread(spec, trace):
-    """One line on the names in a trace that are no input's, or none."""
+def unread(spec, trace, is_part):
+    """One line on the names in a trace that are no input's, or none. Of a part that is saved a last line without its end is none yet."""
     known = inputs(spec)
     data = trace.head(LOOKED_AT) if trace and known else b""
+    is_cut = len(data) == LOOKED_AT
+    data = with_beginning(data, trace.begun) if data else data
+    data = data[: data.rfind(b"\n") + 1] if is_part or is_cut else data
     names = b"|".join(re.escape(it.encode("utf-8", "surrogateescape")) for it in known)
     other = re.compile(BEGINNING + rb"(?!(?:" + names + rb")(?:[\s=]|\Z))" + NAME, re.M)
     strangers = list(other.finditer(data))
@@ -35,10 +38,18 @@ def unread(spec, trace):
     name, line = text_of(strangers[0][1]), data.count(b"\n", 0, strangers[0].start(1)) + 1
     near = nearest(name, known)
     lines = "1 line has a name" if len(strangers) == 1 else f"{len(strangers)} lines have names"
-    part = " of its first 2 MB" if len(data) == LOOKED_AT else ""
+    part = " of its first 2 MB" if is_cut else ""
     closest = f"; the nearest input is {near}" if near else f"; inputs are {short(', '.join(known))}"
     first = f"{short(name)} in line {line}" if len(strangers) == 1 else f"the first is {short(name)} in line {line}"
     return [f"tessla: {lines} that no input has{part}: {first}{closest}"]
+
+
+def with_beginning(data, begun):
+    """A trace whose first line goes on with these bytes, or with unknown ones: then that line says nothing."""
+    if begun is not None:
+        return begun + data
+    _, end, more = data.partition(b"\n")
+    return end + more
 
 
 def of_line(line, text, spec):
