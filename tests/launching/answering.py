@@ -7,8 +7,8 @@ import shutil
 from starts import LAUNCHER, TOP, controls_in, environment
 from talking import write_files
 
-OPTIONS = ("--until", "--instants", "--bytes", "--strict", "--stats")
-COMMANDS = ("run", "check", "flat", "slice", "show", "code", "compile", "exec", "gen", "bench")
+OPTIONS = ("--until", "--instants", "--bytes", "--strict", "--stats", "--save", "--resume")
+COMMANDS = ("run", "check", "flat", "slice", "why", "show", "code", "compile", "exec", "gen", "bench")
 
 
 def text_of(*names):
@@ -69,6 +69,10 @@ def kinds_of_the_manual_page(starts):
     tried.holds("the manual has the texts that refuse code", len(texts) == 5, texts)
     for text in texts:
         tried.holds(f"the manual page has {text}", re.search(rf'^\.BR "?{text}"? [,.]$', page, re.M))
+    texts = re.findall(r"^\| `([a-zA-Z ]+)` \| ", text_of("docs", "LANGUAGE.md").partition("\n## Refused states\n")[2].partition("\n## ")[0], re.M)
+    tried.holds("the manual has the texts that refuse states", sorted(texts) == ["other program", "wrong form"], texts)
+    for text in texts:
+        tried.holds(f"the manual page has {text} of a state", re.search(rf'^\.BR "{text}" [,.]$', page.partition("Texts of refused states:")[2], re.M))
     if tried.has("groff"):
         for name in sorted(os.listdir(os.path.join(TOP, "man"))):
             ended = starts.start(["groff", "-man", "-ww", "-Tascii", os.path.join(TOP, "man", name)])
@@ -98,9 +102,18 @@ def completes_in_bash(starts):
     tried.holds("bash completes a specification of compile", of_bash(starts, "tessla", "compile", "q") == ["q.tsl"])
     tried.holds("bash completes a file to be made", of_bash(starts, "tessla", "compile", "q.tsl", "fault") == ["fault.trace"])
     tried.holds("bash completes an option of exec", of_bash(starts, "tessla", "exec", "q.code", "--st") == ["--strict", "--stats"])
+    tried.holds("bash completes a file to be saved", of_bash(starts, "tessla", "run", "q.tsl", "--save", "fault") == ["fault.trace"])
+    tried.holds("bash completes a state to go on from", of_bash(starts, "tessla", "exec", "q.code", "--resume", "fault") == ["fault.trace"])
+    tried.holds("bash completes a state", of_bash(starts, "tessla", "state", "fault") == ["fault.trace"])
+    tried.holds("bash completes the option of state", of_bash(starts, "tessla", "state", "x", "--") == ["--code"])
     tried.holds("bash completes a code file", of_bash(starts, "tessla", "exec", "fault") == ["fault.trace"])
     tried.holds("bash completes a specification of slice", of_bash(starts, "tessla", "slice", "q") == ["q.tsl"])
     tried.holds("bash completes no output", of_bash(starts, "tessla", "slice", "q.tsl", "q") in ([], [""]))
+    tried.holds("bash completes a specification of why", of_bash(starts, "tessla", "why", "q") == ["q.tsl"])
+    tried.holds("bash completes a trace of why", of_bash(starts, "tessla", "why", "q.tsl", "fault") == ["fault.trace"])
+    tried.holds("bash completes no output of why", of_bash(starts, "tessla", "why", "q.tsl", "fault.trace", "q") in ([], [""]))
+    tried.holds("bash completes an option of why", of_bash(starts, "tessla", "why", "q.tsl", "--") == ["--instants", "--bytes", "--strict"])
+    tried.holds("bash completes the option of explain", of_bash(starts, "tessla", "explain", "q.tsl", "--a") == ["--all"])
     tried.holds("bash completes a kind", of_bash(starts, "tessla", "gen", "s") == ["seen"])
     tried.holds("bash completes a word of tools/words", of_bash(starts, "tessla", "li") == ["lint"])
     tried.holds("bash completes a specification of lint", of_bash(starts, "tessla", "lint", "q") == ["q.tsl"])
@@ -123,16 +136,21 @@ def completes_in_zsh(starts):
     def completed(*words):
         return starts.start(["zsh", "-fc", ZSH, "-", os.path.join(TOP, "completions"), *words]).out.decode()
 
-    words = "run check flat slice show code compile exec gen bench lint test picture page install package help -- --help --version "
+    words = "run check flat slice why show code compile exec gen bench state explain lint test picture page install package help -- --help --version "
     tried.holds("zsh completes a command", completed("tessla", "ch") == words)
     tried.holds("zsh completes an option", re.search("--strict.* --stats.*specification:", completed("tessla", "run", "q.tsl", "--st")))
     tried.holds("zsh completes a specification", completed("tessla", "check", "q") == "files -g *.tsl ")
     tried.holds("zsh completes a specification of compile", completed("tessla", "compile", "q") == "files -g *.tsl ")
     tried.holds("zsh completes a file to be made", completed("tessla", "compile", "q.tsl", "f") == "files ")
     tried.holds("zsh completes an option of exec", re.search("--strict.* --stats.*1:code file:.*2:trace:", completed("tessla", "exec", "q.code", "--st")))
+    tried.holds("zsh completes files of both options", re.search("--save=.*:file:_files.* --resume=.*:state:_files", completed("tessla", "run", "q.tsl", "--st")))
+    tried.holds("zsh completes a state", re.search("--code.*1:state:_files", completed("tessla", "state", "q")))
     tried.holds("zsh completes no code file of run", "code file" not in completed("tessla", "run", "q.tsl", "--st"))
     tried.holds("zsh completes a specification of slice", completed("tessla", "slice", "q") == "files -g *.tsl ")
     tried.holds("zsh completes no output", completed("tessla", "slice", "q.tsl", "q") == "")
+    own = completed("tessla", "why", "q.tsl", "x", "--st")
+    tried.holds("zsh completes all of why", re.search("--strict.*1:specification:.*2:trace:_files 3:output: 4:time:", own) and "--all" not in own, own)
+    tried.holds("zsh completes the option of explain", re.search("--strict.*--all.*4:time:", completed("tessla", "explain", "q.tsl", "x", "--a")))
     tried.holds("zsh completes a kind", completed("tessla", "gen", "s") == "seen copy ")
     tried.holds("zsh completes a specification of lint", completed("tessla", "lint", "q") == "files -g *.tsl ")
     tried.holds("zsh completes a folder", re.search("--bless.*folder:", completed("tessla", "test", "q")))
@@ -154,9 +172,17 @@ def completes_in_fish(starts):
     tried.holds("fish completes a specification of compile", completed("tessla compile q") == ["q.tsl"])
     tried.holds("fish completes a file to be made", "fault.trace" in completed("tessla compile q.tsl f"))
     tried.holds("fish completes an option of exec", completed("tessla exec q.code --st") == ["--stats", "--strict"])
+    tried.holds("fish completes a file to be saved", "fault.trace" in completed("tessla run q.tsl --save f"))
+    tried.holds("fish completes a state to go on from", "fault.trace" in completed("tessla exec q.code --resume f"))
+    tried.holds("fish completes a state", "fault.trace" in completed("tessla state f"))
+    tried.holds("fish completes the option of state", completed("tessla state x --c") == ["--code"])
     tried.holds("fish completes a code file", "fault.trace" in completed("tessla exec f"))
     tried.holds("fish completes a specification of slice", completed("tessla slice q") == ["q.tsl"])
     tried.holds("fish completes no output", completed("tessla slice q.tsl q") == [])
+    tried.holds("fish completes a specification of why", completed("tessla why q") == ["q.tsl"])
+    tried.holds("fish completes a trace of why", "fault.trace" in completed("tessla why q.tsl f"))
+    tried.holds("fish completes an option of why", completed("tessla why q.tsl --st") == ["--strict"])
+    tried.holds("fish completes the option of explain", completed("tessla explain q.tsl --a") == ["--all"])
     tried.holds("fish completes a kind", completed("tessla gen s") == ["seen"])
     tried.holds("fish completes a word of tools/words", completed("tessla li") == ["lint"])
     tried.holds("fish completes a specification of lint", completed("tessla lint q") == ["q.tsl"])

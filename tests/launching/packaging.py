@@ -24,6 +24,7 @@ OF_GIT.update({"GIT_CONFIG_GLOBAL": "/dev/null", "GIT_CONFIG_SYSTEM": "/dev/null
 ARCHIVE, DEBIAN = r"tessla-(.*)-linux-(amd64|arm64)\.tar\.gz", r"tessla_(.*)_(amd64|arm64)\.deb"
 # What a program may be started from where there is neither a kit nor a compiler.
 PLAIN = ("sh", "dirname", "readlink", "cat", "tr", "sed", "find", "sort", "cksum", "env")
+SILENT = "26"
 WATCHDOG = "26: silence = ()\n26: heard = 16\n55: silence = ()\n55: heard = 45\n65: silence = ()\n65: heard = 55\n"
 # What stands in the packages beside what is installed.
 ADDED = {"share/doc/tessla/copyright", "share/doc/tessla/ORIGIN", "share/doc/tessla/SHA256SUMS"}
@@ -135,7 +136,7 @@ def archive_is_right(starts, what, data, time):
     wrong = [it.name for it in infos if it.mode not in ((0o755,) if it.isdir() else (0o644, 0o755)) or not (it.isdir() or it.isfile())]
     tried.holds(f"all in {what} can be read by all and changed by root", not wrong, wrong[:5])
     started = {it.name.rpartition("/")[2] for it in infos if it.isfile() and it.mode == 0o755}
-    tried.holds(f"what is started in {what}", started == {"tessla", "log2trace", "trace2", "messages", "lint", "test", "picture", "page"}, started)
+    tried.holds(f"what is started in {what}", started == {"tessla", "log2trace", "trace2", "messages", "state", "explain", "lint", "test", "picture", "page"}, started)
     return files
 
 
@@ -251,6 +252,8 @@ def runs(starts, what, prefix):
     tried.holds(f"{what}: a code file that is none", ended.status == 9 and b"  cause:  this is a specification, and no code file\n" in ended.err, ended)
     ended = start("picture", watchdog[0], "silence")
     tried.holds(f"{what}: picture", ended.status == 0 and ended.out.startswith(b"digraph tessla {\n") and b"silence" in ended.out, ended)
+    ended = start("explain", *watchdog, "silence", SILENT)
+    tried.holds(f"{what}: explain", ended.status == 0 and ended.out.startswith(f"{SILENT}: silence = ()".encode()) and b"  trace " in ended.out, ended)
     tried.ended(f"{what}: lint", start("lint", watchdog[0]), 0, "", "")
     ended = start("test", examples)
     tried.holds(f"{what}: test", ended.status == 0 and re.search(rb"\n[1-9][0-9]* passed, 0 failed\n$", ended.out), ended)

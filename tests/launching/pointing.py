@@ -1,5 +1,6 @@
 """Messages that point: at the token at hand, at its file, at the word, and at what stands in the trace."""
 
+import contextlib
 import os
 import re
 import sys
@@ -299,6 +300,18 @@ WORDS = (
     ("slice q.tsl", "slice needs the name of an output after the specification, NAME", "slice SPEC NAME"),
     ("slice q.tsl q r", "`r` is one word too many for slice", "slice SPEC NAME"),
     ("slice q.tsl q --strict", "slice takes no options, and `--strict`", "slice SPEC NAME"),
+    ("why", "why needs the name of a specification", "why SPEC TRACE NAME TIME"),
+    ("why q.tsl", "why needs a trace after the specification, TRACE", "why SPEC TRACE NAME TIME"),
+    ("why q.tsl fault.trace", "why needs the name of an output after the trace, NAME", "why SPEC TRACE NAME TIME"),
+    ("why q.tsl fault.trace q", "why needs a time after the output, TIME", "why SPEC TRACE NAME TIME"),
+    ("why q.tsl fault.trace q 1 2", "`2` is one word too many for why", "why SPEC TRACE NAME TIME"),
+    ("why q.tsl fault.trace q x", "the time takes a number of digits alone, and `x` is none", "why SPEC TRACE NAME TIME"),
+    ("why q.tsl fault.trace q -1", "`-1` begins with a dash", "why SPEC TRACE NAME TIME"),
+    ("why q.tsl fault.trace q 9223372036854775808", "the time is from 0 to 9223372036854775807", "why SPEC TRACE NAME TIME"),
+    ("why q.tsl fault.trace q 1 --until 5", "why has no option `--until`: the end of the trace closes", "why SPEC TRACE NAME TIME"),
+    ("why q.tsl fault.trace q 1 --stric", "why has no option `--stric`; the nearest is --strict", "why SPEC TRACE NAME TIME"),
+    ("why q.tsl fault.trace q 1 --instants 0", "--instants is from 1 to 1000000000000", "why SPEC TRACE NAME TIME"),
+    ("wy q.tsl", "there is no command `wy`; the nearest is why", "why SPEC TRACE NAME TIME"),
     ("compile", "compile needs the name of a specification", "compile SPEC FILE"),
     ("compile q.tsl", "compile needs the name of a file to be made after the specification, FILE", "compile SPEC FILE"),
     ("compile q.tsl a b", "`b` is one word too many for compile", "compile SPEC FILE"),
@@ -308,6 +321,25 @@ WORDS = (
     ("exec q.code --stats=1", "--stats takes no value", "exec FILE [TRACE]"),
     ("exec a b c", "`c` is one word too many for exec", "exec FILE [TRACE]"),
     ("exac a", "there is no command `exac`; the nearest is exec", "exec FILE [TRACE]"),
+    ("run q.tsl --save", "--save needs the name of a file after it", "run SPEC [TRACE]"),
+    ("run q.tsl --resume=", "--resume has an empty name", "run SPEC [TRACE]"),
+    ("run q.tsl --save -s", "`-s` begins with a dash, and is no name so: `./-s` is", "run SPEC [TRACE]"),
+    ("run q.tsl --save s --save=s", "--save stands twice", "run SPEC [TRACE]"),
+    ("run q.tsl --save s --until 5", "--until does not stand beside --save: a run that is saved closes nothing", "run SPEC [TRACE]"),
+    ("run q.tsl --strict --resume s", "--strict does not stand beside --resume: a run that goes on keeps those", "run SPEC [TRACE]"),
+    ("exec q.code --resume s --bytes 5", "--bytes does not stand beside --resume", "exec FILE [TRACE]"),
+    ("run q.tsl --resumes s", "run has no option `--resumes`; the nearest is --resume", "run SPEC [TRACE]"),
+    ("check q.tsl --save s", "check takes no options, and `--save`", "check SPEC"),
+    ("run q.tsl fault.trace --until", "--until needs a number after it", "run SPEC [TRACE]"),
+    ("run q.tsl fault.trace --save", "--save needs the name of a file after it", "run SPEC [TRACE]"),
+    ("run q.tsl fault.trace --resume", "--resume needs the name of a file after it", "run SPEC [TRACE]"),
+    ("run q.tsl fault.trace --save --resume", "`--resume` begins with a dash", "run SPEC [TRACE]"),
+    ("run --bytes", "--bytes needs a number after it", "run SPEC [TRACE]"),
+    ("run --save", "--save needs the name of a file after it", "run SPEC [TRACE]"),
+    ("run --resume -", "run needs the name of a specification", "run SPEC [TRACE]"),
+    ("check q.tsl --resume", "check takes no options, and `--resume`", "check SPEC"),
+    ("exec --resume", "--resume needs the name of a file after it", "exec FILE [TRACE]"),
+    ("--save s run", "--save stands after the command: tessla run SPEC --save", "run SPEC [TRACE]"),
     ("gen sen 5", "`sen` is no kind: it is seen or copy; the nearest is seen", "gen KIND N"),
     ("gen seen 0", "the number of lines is from 1 to 1000000", "gen KIND N"),
 )
@@ -339,6 +371,30 @@ def of_outputs(starts):
         starts.tried.ended(f"no output of that name: {shown}", ended, 10, "", wanted)
     with open(os.path.join(starts.room, "named.tsl"), "rb") as given:
         starts.tried.ended("no output of the standard input", starts.extras("slice", "-", "gap", given=given), 10, "", "no output gap\n")
+
+
+def of_no_events(starts):
+    """Where an output has no event at a time, its nearest ones are told, as far as the files can be read once more."""
+    starts.write("event.tsl", "in i: Events[Int]\nout last(i, i) as p\nout filter(i, i > 99) as high\n")
+    starts.write("event.trace", "1: i = 4\n3: i = 9\n6: i = 1\n9: i = 2\n")
+    kinds = (
+        ("p 4", "p has events at other times", "the nearest are at 3 before it and at 6 after it"),
+        ("p 1", "p has events at other times", "the nearest is at 3 after it"),
+        ("p 12", "p has events at other times", "the nearest is at 9 before it"),
+        ("p 008 --instants 4", "p has events at other times", "the nearest is at 6 before it"),
+        ("high 3", "high has no event in this trace, as far as it goes", "a delay that is due later needs a later line TIME: at its end"),
+    )
+    for words, cause, helps in kinds:
+        name, time = words.split()[0], int(words.split()[1])
+        wanted = f"no event of {name} at {time}\n  cause:  {cause}\n  remedy: {helps}\n"
+        for command in ("why", "explain"):
+            starts.tried.ended(f"{command} {words}", starts.extras(command, "event.tsl", "event.trace", *words.split()), 10, "", wanted)
+    with open(os.path.join(starts.room, "event.trace"), "rb") as given:
+        starts.tried.ended("no event by the standard input", starts.extras("why", "event.tsl", "-", "p", "4", given=given), 10, "", "no event of p at 4\n")
+    starts.write("event2.tsl", "in i: Events[Int]\ndef p := last(i, i)\nout p as of\n")
+    ended = starts.extras("why", "event2.tsl", "event.trace", "p", "3")
+    wanted = "no output p\n  cause:  p is declared, and is the name of no output\n  remedy: write out p; outputs are of\n"
+    starts.tried.ended("no output of why", ended, 10, "", wanted)
 
 
 def of_codes(starts):
@@ -376,6 +432,132 @@ def of_codes(starts):
     tried.holds("a code file as a specification", ended.status == 3 and ended.err.endswith(b"  remedy: run it by tessla exec\n"), ended)
     ended = starts.extras("exec", "hostile\033.code")
     tried.holds("a code file that is absent, of a hostile name", ended.status == 5 and b"  hostile\\x1b.code: No such file" in ended.err, ended)
+
+
+def of_states(starts):
+    """What a state is that is refused, and why."""
+    tried = starts.tried
+    starts.write("first.trace", "1: i = 5\n2: i = 4\n3: i")
+    tried.ended("a run is saved", starts.extras("run", "q.tsl", "first.trace", "--save", "q.state"), 0, "1: q = 20\n", "")
+    tried.ended("and goes on", starts.extras("run", "q.tsl", "--resume", "q.state", given=b" = 2\n"), 0, "2: q = 25\n3: q = 50\n", "")
+    with open(os.path.join(starts.room, "q.state"), "rb") as opened:
+        state = opened.read()
+    kinds = (
+        ("empty.state", b"", "the file is empty", "run --save"),
+        ("begun.state", state[:5], "the file ends within its first line", "the state before it"),
+        ("cut.state", state[:-1], "something is cut off", "the state before it"),
+        ("q.tsl", None, "this is a specification, and no state", "run --save"),
+        ("fault.trace", None, "this is a trace, and no state", "run --save"),
+        ("elf.state", b"\x7fELF\n\0", "it does not begin as a state does", "run --save"),
+    )
+    for name, data, cause, helps in kinds:
+        if data is not None:
+            starts.write(name, data)
+        ended = starts.extras("run", "q.tsl", "fault.trace", "--resume", name)
+        begins = f"state: wrong form\n{name}: wrong form\n  cause:  ".encode()
+        is_told = ended.status == 8 and not ended.out and ended.err.startswith(begins) and cause.encode() in ended.err and helps.encode() in ended.err
+        tried.holds(f"a state that is refused: {name}", is_told, ended)
+    starts.write("other.tsl", "in i: Events[Int]\nout 100 / i as r\n")
+    told = "state: other program\nq.state: other program\n  cause:  the state's code has %1 q := Lift div(100, $0) %0"
+    ended = starts.extras("run", "other.tsl", "fault.trace", "--resume=q.state")
+    tried.holds("a state of other code", ended.status == 8 and ended.err.decode().startswith(told) and b", and the other has not\n" in ended.err, ended)
+    starts.plain("compile", "other.tsl", "other.code")
+    ended = starts.extras("exec", "other.code", "fault.trace", "--resume=q.state")
+    explained(starts, "a state of other code than a code file has", ended, 8, "", "state: other program\nq.state: other program\n", "whole trace")
+    ended = starts.extras("run", "q.tsl", "fault.trace", "--resume", "-", given=b"x")
+    explained(starts, "a refused state of a pipe", ended, 8, "", "state: wrong form\n", "the state before it")
+
+
+def of_parts(starts):
+    """The lines of a trace that goes on are counted from the first one of the first run, and a file is named that can't be read or made."""
+    tried = starts.tried
+    starts.write("next.trace", " = x\n")
+    named = "trace 3: wrong value for i\nnext.trace:1:1: wrong value for i\n    3: i = x\n"
+    explained(starts, "the first line of a trace that goes on", starts.extras("run", "q.tsl", "next.trace", "--resume", "q.state"), 4, "", named, "write TIME: i = 5")
+    starts.write("next.trace", " = 2\n\n  4 i = 5\n# more\n# more\n")
+    named = "trace 5: not a trace line\nnext.trace:3:3: not a trace line\n      4 i = 5\n"
+    ended = starts.extras("run", "q.tsl", "next.trace", "--resume", "q.state")
+    explained(starts, "a further line of a trace that goes on", ended, 4, "2: q = 25\n", named, "TIME: NAME = VALUE")
+    ended = starts.extras("run", "q.tsl", "--resume", "q.state", given=b" = 2\n1: i = 3\n")
+    explained(starts, "a line of a pipe that goes on", ended, 4, "2: q = 25\n", "trace 4: time 1 after 3\n", "")
+    ended = starts.extras("run", "q.tsl", "next.trace", "--resume", "/dev/stdin", given=read(starts, "q.state"))
+    explained(starts, "a line behind a state of a pipe", ended, 4, "2: q = 25\n", "trace 5: not a trace line\n", "TIME: NAME = VALUE")
+    fails = (
+        ("--resume", "hostile\033.state", "  hostile\\x1b.state: No such file or directory\n"),
+        ("--resume", ".", "  .: Is a directory\n"),
+        ("--save", ".", "  .: Is a directory\n"),
+        ("--save", "absent/s", "  absent/s: No such file or directory\n"),
+        ("--save", "/dev/full", "  /dev/full: it cannot be written\n"),
+    )
+    for option, name, told in fails:
+        ended = starts.extras("run", "q.tsl", "first.trace", option, name)
+        tried.holds(f"{option} {told.strip()}", ended.status == 5 and ended.err.decode().endswith(f"outside: a call failed\n{told}"), ended)
+
+
+def of_strange_parts(starts):
+    """Which names of a part are no input's: its first line goes on where the state ends, and a state may stand where the trace stood."""
+    tried, told = starts.tried, "tessla: 1 line has a name that no input has: "
+    starts.write("strange.trace", "1: j = 5\n2: k")
+    of_first = f"{told}j in line 1; inputs are i\n"
+    tried.ended("of a part its whole lines are told", starts.extras("run", "q.tsl", "strange.trace", "--save", "s.state"), 0, "", of_first)
+    starts.write("noted.trace", "# at ")
+    starts.plain("run", "q.tsl", "noted.trace", "--save", "noted.state")
+    kinds = (
+        ("a name that the state has", "s.state", " = 5\n", f"{told}k in line 1; inputs are i\n"),
+        ("a name that the state begins", "s.state", "k = 5\n3: i = 5\n", f"{told}kk in line 1; inputs are i\n"),
+        ("a comment that the state begins", "noted.state", "1: j = 5\n3: i = 5\n", ""),
+        ("a line behind the first one", "noted.state", "1: j = 5\n3: k = 5\n", f"{told}k in line 2; inputs are i\n"),
+    )
+    for what, state, data, wanted in kinds:
+        starts.write("more.trace", data)
+        for name, given in ((state, b""), ("/dev/stdin", read(starts, state))):
+            ended = starts.extras("run", "q.tsl", "more.trace", "--resume", name, given=given)
+            tried.ended(f"{what}, of {name}", ended, 0, None, wanted if name == state or "line 1" not in wanted else "")
+        starts.write("place.state", read(starts, state))
+        tried.ended(f"{what}, of a state that is saved anew", starts.extras("run", "q.tsl", "more.trace", "--resume", "place.state", "--save=place.state"), 0, None, wanted)
+    sources = {"set.tsl": "in i: Events[Int]\ndef s: Events[Set[Int]] := merge(Set.add(last(s, i), i), Set.empty[Int])\nout Set.size(s) as n\n", "text.tsl": "in s: Events[String]\nout last(s, s) as p\n"}
+    for spec, trace, saved in (("set.tsl", "1: i = 5\n", "set.tsl"), ("set.tsl", "1: i = 5\n", "./link"), ("text.tsl", '1: s = "\\n1: j = 5\\n"\n', "part.trace")):
+        starts.write(spec, sources[spec])
+        starts.write("part.trace", trace)
+        with contextlib.suppress(FileExistsError):
+            os.symlink("set.tsl", os.path.join(starts.room, "link"))
+        ended = starts.extras("run", spec, "part.trace", "--save", saved)
+        tried.holds(f"a state of {spec} in the place of {saved}", ended.status == 0 and not ended.err and read(starts, saved).startswith(b"TSLSTA1\n"), ended)
+
+
+def tells_states(starts):
+    """What `tessla state` tells of a state, and of other files."""
+    tried = starts.tried
+    starts.write("two.trace", "1: i = 5\n7: i = 4\n8")
+    starts.plain("run", "q.tsl", "two.trace", "--save", "told.state", "--strict", "--bytes=100")
+    told = "bytes 19\nlines 2\nrest 1\ntime 7\ninstants 2\noptions --instants 1000000000000 --bytes 100 --strict\n"
+    tried.ended("what a state has", starts.plain("state", "told.state"), 0, told, "")
+    tried.ended("what the state of the standard input has", starts.plain("state", "-", given=read(starts, "told.state")), 0, told, "")
+    tried.ended("the code of a state", starts.plain("state", "told.state", "--code"), 0, starts.plain("code", "q.tsl").out.decode(), "")
+    starts.plain("run", "q.tsl", "--save", "none.state", given=b"")
+    tried.ended("what the state of an empty trace has", starts.plain("state", "none.state"), 0,
+                "bytes 0\nlines 0\nrest 0\ntime none\ninstants 0\noptions --instants 1000000000000 --bytes 1099511627776\n", "")
+    starts.write("part.state", read(starts, "told.state")[:60])
+    refused = (("part.state", "it ends too early: a part of it is cut off"), ("q.tsl", "it does not begin as a state does"), ("/dev/null", "it is empty"))
+    for name, why in refused:
+        said = f"tessla: {name} is no state that a run has saved: {why}\n"
+        tried.ended(f"no state: {name}", starts.plain("state", name), 8, "", said)
+    tried.ended("no state, of a hostile name", starts.plain("state", "x\033"), 5, "", "tessla: x\\x1b: No such file or directory\n")
+    large = starts.write("large.state", b"TSLSTA1\n" + (1 << 30).to_bytes(8, "big"))
+    os.truncate(large, 16 + (1 << 30))
+    env = environment(TESSLA_PROGRAM=starts.program)
+    ended = starts.start(["sh", "-c", 'ulimit -v 300000 && exec "$@"', "sh", LAUNCHER, "state", large], env=env)
+    os.unlink(large)
+    tried.ended("a state with more code than memory", ended, 6, "", "tessla: out of memory\n")
+    for words in ((), ("a", "b"), ("a", "--code", "--code"), ("",)):
+        ended = starts.plain("state", *words)
+        tried.holds(f"state with {words}", ended.status == 125 and ended.err.startswith(b"tessla: state needs the name of a file"), ended)
+    tried.ended("a state is read without a program", starts.plain("state", "told.state", program="/dev/null/absent"), 0, told, "")
+
+
+def read(starts, name):
+    with open(os.path.join(starts.room, name), "rb") as opened:
+        return opened.read()
 
 
 # ---- On a terminal
@@ -428,6 +610,10 @@ def waits(starts):
     tried.holds("a code file of the terminal", started.read(b"ends it\n") and b"a code file is read from the terminal" in started.shown, started.shown)
     started.give(b"x\n\x04")
     tried.holds("and it is refused", started.end().status == 9, started.shown)
+    started = terminal(starts, "run", "q.tsl", "fault.trace", "--resume", "-")
+    tried.holds("a state of the terminal", started.read(b"ends it\n") and b"a state is read from the terminal" in started.shown, started.shown)
+    started.give(b"x\n\x04")
+    tried.holds("and that is refused", started.end().status == 8, started.shown)
     started = terminal(starts, "check", "-")
     tried.holds("a specification of the terminal", started.read(b"ends it\n") and b"the specification is read" in started.shown, started.shown)
     started.give(b"out 1 as x\n\x04")
@@ -482,7 +668,7 @@ def is_soon(starts):
 
 def asked_for(starts):
     """What is added where it is asked for changes nothing of the standard output or the status."""
-    for words in (("run", "q.tsl", "fault.trace"), ("check", "name.tsl"), ("run", "four.tsl", "odd.trace"), ("flat", "q.tsl"), ("slice", "q.tsl", "q"), ("slice", "q.tsl", "i"), ("gen", "seen", "3")):
+    for words in (("run", "q.tsl", "fault.trace"), ("check", "name.tsl"), ("run", "four.tsl", "odd.trace"), ("flat", "q.tsl"), ("slice", "q.tsl", "q"), ("slice", "q.tsl", "i"), ("why", "q.tsl", "fault.trace", "q", "1"), ("why", "q.tsl", "fault.trace", "q", "2"), ("gen", "seen", "3")):
         plain, extras = starts.plain(*words), starts.extras(*words)
         same = (plain.status, plain.out) == (extras.status, extras.out) and extras.err.startswith(plain.err)
         starts.tried.holds(f"what is asked for comes below: {' '.join(words)}", same, plain, extras)
@@ -499,7 +685,12 @@ def pointing(starts):
     of_silence(starts)
     of_words(starts)
     of_outputs(starts)
+    of_no_events(starts)
     of_codes(starts)
+    of_states(starts)
+    of_parts(starts)
+    of_strange_parts(starts)
+    tells_states(starts)
     of_nothing(starts)
     waits(starts)
     colours(starts)

@@ -12,13 +12,15 @@ sys.path.insert(0, os.path.join(TOP, "tests", "surroundings"))
 from large import large_sources  # noqa: E402
 
 CASES = os.path.join(TOP, "tests", "cases")
-WITH_VALUE = (b"--until", b"--instants", b"--bytes")
+WITH_VALUE = (b"--until", b"--instants", b"--bytes", b"--save", b"--resume")
 PREVIOUS = "in i: Events[Int]\nout last(i, i) as p\n"
 # A run of many lines may take so many times what the program takes.
 MOST_TIMES = 3
 # The status where a call of the outside failed, which no call of the page does but one that makes a file.
 OUTSIDE = 5
-NOTHING_IS_MADE = (OUTSIDE, b"", b"outside: a call failed\n")
+CALL_FAILED = b"outside: a call failed\n"
+# The statuses of words and of what runs: these come before a state is read.
+BEFORE_STATES = (2, 3, 9)
 # Cases of the language's limits, which have to be among those that are tried.
 LIMITS = {"as_many_levels_as_may_be", "too_many_levels", "levels_of_braces", "levels_of_brackets", "levels_of_choices", "levels_of_mixed_kinds", "levels_of_prefixes"}
 LIMITS |= {"line_of_65536_bytes", "line_of_65537_bytes", "text_of_65536_bytes", "text_of_65537_bytes"}
@@ -39,15 +41,31 @@ def recipes(page):
         page.judge_same(f"run of {name}", [b"run", b"spec", b"trace", *options], spec, trace)
         for command in (b"check", b"flat", b"show", b"code"):
             page.judge_same(f"{command.decode()} of {name}", [command, b"spec"], spec, b"")
-        output = shown.split(b" = ")[0].split(b": ")[-1]
+        time, output = shown.split(b" = ")[0].split(b": ")
         page.judge_same(f"slice of {name}", [b"slice", b"spec", output], spec, b"")
+        page.judge_same(f"why of {name}", [b"why", b"spec", b"trace", output, time], spec, trace)
     page.put(recipe="seen")
-    for command in ("flat", "slice", "show", "code", "check", "run"):
-        page.put(command=command)
-        words = [command.encode(), b"spec"] + {"run": [b"trace"], "slice": [b"again"]}.get(command, [])
+    for command in ("flat", "slice", "why", "show", "code", "check", "run"):
+        page.put(command=command, time="2")
+        words = [command.encode(), b"spec"] + {"run": [b"trace"], "slice": [b"again"], "why": [b"trace", b"again", b"2"]}.get(command, [])
         wanted = page.native(words, read(EXAMPLES, "seen.tsl"), read(EXAMPLES, "seen.trace"))[1].decode()
         page.tally.judge(f"{command} by the menu", "" if page.of("output") == wanted else repr(page.of("output")[:200]))
     slices(page)
+    whys(page)
+
+
+def whys(page):
+    """Why the output that is named has an event, or the first one, at a time or at 0."""
+    spec, trace, why = "in i: Events[Int]\nout i as o\nout last(i, i) as p\n", "0: i = 7\n3: i = 9\n", "#0 %0 i at 0 = 7\n"
+    page.put(spec=spec, trace=trace, command="why", name="", time="")
+    page.tally.judge("why without a name and a time", "" if page.of("output") == why and page.of("status").startswith("status 0:") else repr(page.of("output")))
+    page.put(name="o", time="003")
+    page.tally.judge("why at a time", "" if page.of("output") == "#0 %0 i at 3 = 9\n" else repr(page.of("output")))
+    for name, time, status, message in (("p", "2", "the output has no event then", "no event of p at 2"), ("i", "3", "no output has this name", "no output i")):
+        page.put(name=name, time=time)
+        right = page.of("status").startswith(f"status 10: {status}") and page.of("message") == message and not page.of("output")
+        page.tally.judge(f"why {name} {time}", "" if right else f"{page.of('status')}: {page.of('message')!r}")
+    page.put(command="run", name="", time="")
 
 
 def slices(page):
@@ -86,6 +104,9 @@ def texts_of(case, words):
     # The second name of these is that of an output, or of a file that is made.
     if words and words[0] in (b"slice", b"compile"):
         names = names[:1]
+    # Behind the trace stand the name of an output and a time.
+    if words and words[0] == b"why":
+        names = names[:2]
     spec = (names + [b"-"])[0]
     trace = (names[1:] + [b"-"])[0]
     found = [stdin if it == b"-" else read(case, "files", os.fsdecode(it)) for it in (spec, trace)]
@@ -94,7 +115,7 @@ def texts_of(case, words):
 
 
 def cases(page):
-    """Each case gives what its folder says. Those that need a file which can't be read are left out: the page opens none. And it makes none."""
+    """Each case gives what its folder says. Those that need a file which can't be read, or a state, are left out: the page opens none. And it makes none."""
     tried, left_out = set(), 0
     for name in sorted(os.listdir(CASES)):
         case = os.path.join(CASES, name)
@@ -102,17 +123,20 @@ def cases(page):
         words = words[:-1] if words[-1] == b"" else words
         wanted = (int(read(case, "status") or 0), read(case, "stdout"), read(case, "stderr"))
         spec, trace = texts_of(case, words)
-        if os.path.isdir(os.path.join(case, "made")):
-            wanted = NOTHING_IS_MADE
-        elif wanted[0] == OUTSIDE or None in (spec, trace):
+        goes_on = any(it.startswith(b"--resume") for it in words) and wanted[0] not in BEFORE_STATES
+        is_made = os.path.isdir(os.path.join(case, "made"))
+        if goes_on or wanted[0] == OUTSIDE and not is_made or None in (spec, trace):
             left_out += 1
             continue
+        if is_made:
+            # What is printed comes before.
+            wanted = (OUTSIDE, wanted[1], CALL_FAILED)
         tried.add(name)
         got = page.ask(words, spec, trace)
         page.tally.judge(f"case {name}", "" if got == wanted else f"{got[0]}, {got[1][:120]!r}, {got[2][:120]!r}")
     page.tally.judge("cases of the limits", "" if LIMITS <= tried else f"without {sorted(LIMITS - tried)}")
     if left_out:
-        page.tally.skips(f"{left_out} cases", "they need a file that can't be read", left_out)
+        page.tally.skips(f"{left_out} cases", "they need a state, or a file that can't be read", left_out)
 
 
 def deep(page):

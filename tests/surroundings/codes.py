@@ -1,8 +1,6 @@
 """Code files with random changes, which no compiler made: each is refused by the text that it has to be refused by, or runs as its equations mean."""
 
 import collections
-import importlib.machinery
-import importlib.util
 import os
 import random
 import re
@@ -10,16 +8,18 @@ import shutil
 import struct
 
 from due import BEATS, DIVIDED, EACH_INSTANT, ECHO, HEARTBEATS, LAST_TWO, SEEN, WAITING, WORDS_SEEN
-from plain_code import inputs_of, needs, numbers_bytes, refusal_of, running, updates_of, with_plan
+from plain_code import needs, numbers_bytes, refusal_of, running, updates_of, with_plan
 from plain_plans import is_fine
+from plain_runs import SOLVED, Limits, run_of
 from starts import MESSAGES
 
-TESTS = os.path.dirname(os.path.dirname(os.path.abspath(__file__)))
 NOT_FINE = "code: plan not fine"
 # What a run that is compared may do at most, and how long the last values and delays go on at its end.
 INSTANTS, UNTIL = 40, 70
 # So many random specifications with two or more updates are taken beside those that are named here.
 RANDOM = 16
+# So many codes are changed for each mutation that is asked for.
+FOR_ONE = 10
 
 TRACES = {
     HEARTBEATS: BEATS,
@@ -31,59 +31,6 @@ TRACES = {
     EACH_INSTANT: b"9:\n",
     ECHO: b'0: n = -5\n1: b = true\n1: t = "x"\n2: u\n3: n = 9223372036854775807\n3: b = false\n',
 }
-
-
-def solver():
-    """The script tests/solved, which solves equations plainly."""
-    path = os.path.join(TESTS, "solved")
-    loader = importlib.machinery.SourceFileLoader("solved", path)
-    module = importlib.util.module_from_spec(importlib.util.spec_from_loader("solved", loader))
-    loader.exec_module(module)
-    return module
-
-
-SOLVED = solver()
-
-
-# ---- What a run of some code has to write
-
-
-def body_of(body):
-    """A body as tests/solved has it."""
-    if body[0] == "argument":
-        return body[1]
-    if body[0] == "literal":
-        return [body[2]]
-    return (body[0], [] if body[0] == "none" else [body_of(part) for part in body[1:]])
-
-
-def equation_of(one):
-    op = "OptLift" if one.op == "Lift" and not one.strict else one.op
-    of = f"{one.of[0]}[]" if len(one.of) > 1 else one.of[0]
-    return SOLVED.Equation(op, of, body_of(one.body) if one.body else None, list(one.args))
-
-
-def run_of(code, trace, limit=INSTANTS, until=UNTIL):
-    """The output, the status and the message of a run of some code on a trace that is accepted, as its equations mean them."""
-    solver_of_it = SOLVED.Solver({number: equation_of(code.equations[number]) for number in running(code)}, {})
-    events, last, refused = SOLVED.reading(trace.decode(), inputs_of(code))
-    solver_of_it.events = events
-    bound = last if refused else max(last, until) + 1
-    out, ran, time = [], 0, 0
-    while time is not None and time < bound:
-        if ran == limit:
-            return "".join(out), 7, f"limit: {limit} instants before time {time}\n"
-        ran += 1
-        kind = solver_of_it.run(time)
-        if kind:
-            at = code.equations[min(solver_of_it.roots)]
-            return "".join(out), 1, f"{time}: fault {kind} at {at.line}:{at.column}\n"
-        for name, number in code.outputs:
-            value = solver_of_it.event(number, time)
-            if value is not None:
-                out.append(f"{time}: {name} = {SOLVED.printed(value)}\n")
-        time = solver_of_it.next_instant(time)
-    return "".join(out), 4 if refused else 0, refused
 
 
 # ---- Changes
@@ -195,8 +142,8 @@ def wanted_ends(data, trace):
     not_fine = (b"", 9, f"{refused or NOT_FINE}\n".encode())
     if refused or fine is False:
         return [not_fine]
-    out, status, message = run_of(code, trace)
-    return [(out.encode(), status, message.encode()), *([] if fine else [not_fine])]
+    ran = run_of(code, trace, Limits(instants=INSTANTS, until=UNTIL))
+    return [(ran.out, ran.status, ran.message), *([] if fine else [not_fine])]
 
 
 def codes(room, check, cases, words):
@@ -216,5 +163,5 @@ def codes(room, check, cases, words):
         check.judge(is_right, ended, f"mutated code {number}, wanted {' or '.join(map(str, wanted))}", code=data, trace=trace)
         shutil.rmtree(folder)
 
-    list(room.pool.map(trial, range(words.mutations)))
+    list(room.pool.map(trial, range(FOR_ONE * words.mutations)))
     check.notes.append(", ".join(f"{kind}: {count}" for kind, count in kinds.most_common()))

@@ -9,7 +9,7 @@ import re
 import subprocess
 
 from due import SEEN
-from starts import CALL_FAILED, MAY_LACK, NO_MEMORY, PAGE, in_turn, marks
+from starts import CALL_FAILED, MAY_LACK, NO_MEMORY, PAGE, SEEN_PRINTED, SOME_NUMBERS, in_turn, marks
 from talking import fed, in_pieces
 
 
@@ -68,7 +68,7 @@ def with_memory(one, ended):
 
 def memory(room, check, cases, words):
     for one, folder in cases:
-        if one.name not in ("heartbeats", "kept_texts", "code", "compile", "exec", "gen"):
+        if one.name not in ("heartbeats", "kept_texts", "why", "code", "compile", "exec", "saved", "resumed", "gen"):
             continue
         for option, kind in (("-v", "RLIMIT_AS"), ("-d", "RLIMIT_DATA")):
 
@@ -92,7 +92,7 @@ def room_left(room, check, cases, words):
                 check.deviates(f"{one.name}: the limit was not set")
             return with_memory(one, ended)
 
-        if one.name in ("heartbeats", "kept_texts", "check", "flat", "slice", "code", "compile", "exec", "show", "gen", "limit"):
+        if one.name in ("heartbeats", "kept_texts", "check", "flat", "slice", "why", "code", "compile", "exec", "saved", "resumed", "show", "gen", "limit"):
             enough(room, check, one.name, trial, True)
 
 
@@ -200,7 +200,7 @@ def calls(room, check, cases, words):
             if is_marked and not room.library:
                 continue
             # The long text of gen in small pieces would be too many calls.
-            small = room.library and error == "EIO" and one.name in ("heartbeats", "refused_line", "code", "compile", "exec", "fault")
+            small = room.library and error == "EIO" and one.name in ("heartbeats", "refused_line", "code", "compile", "exec", "saved", "resumed", "fault")
             for piece in [0, 16] if small and not is_marked else [0]:
                 own = calls_of_one_name(room, check, one, folder, name, error, ways, is_marked, piece)
                 if not own and (name in MADE or (name in MADE_FOR_FILES and one.files)):
@@ -263,10 +263,10 @@ def pieces(room, check, cases, words):
         check.misses("there is no gcc", "short reads and writes")
 
     def piped(job):
-        (one, folder), seed = job
-        dice = random.Random(seed)
-        running = room.begin(one.words, folder, stdin=subprocess.PIPE, stdout=subprocess.PIPE, stderr=subprocess.PIPE)
-        ended = fed(room, running, in_pieces(dice, one.stdin, dice.choice([1, 2, 5, 30])), 0.0005)
+        (one, _), seed = job
+        dice, own = random.Random(seed), room.place(one.files)
+        running = room.begin(one.words, own, stdin=subprocess.PIPE, stdout=subprocess.PIPE, stderr=subprocess.PIPE)
+        ended = room.with_made(fed(room, running, in_pieces(dice, one.stdin, dice.choice([1, 2, 5, 30])), 0.0005), one, own)
         check.judge(ended.is_whole(one), ended, f"{one.name} through a pipe in pieces")
 
     jobs = [(one, words.seed * 1000 + k) for one in cases if one[0].stdin for k in range(20)]
@@ -278,6 +278,8 @@ def full(room, check, cases, words):
         check.lacks("there is no /dev/full")
         return
     for one, folder in cases:
+        # A file is made after all of the output.
+        made = {} if one.out else one.made
         with open("/dev/full", "wb") as device:
             ended = room.start_case(one, folder, out=device)
             if one.out:
@@ -289,11 +291,11 @@ def full(room, check, cases, words):
             check.judge(ended.is_as(one.out, wanted, b"", one.made), ended, f"{one.name}, the error on a full device")
             ended = room.start_case(one, folder, out=device, err=device)
             wanted = 5 if one.out or one.err else one.status
-            check.judge(ended.is_as(b"", wanted, b"", one.made), ended, f"{one.name}, both on a full device")
+            check.judge(ended.is_as(b"", wanted, b"", made), ended, f"{one.name}, both on a full device")
         closing = ["sh", "-c", 'exec "$@" >&-', "sh"]
         ended = room.start_case(one, folder, closing)
         wanted = (5, CALL_FAILED) if one.out else (one.status, one.err)
-        check.judge(ended.is_as(b"", *wanted, one.made), ended, f"{one.name}, the output closed")
+        check.judge(ended.is_as(b"", *wanted, made), ended, f"{one.name}, the output closed")
         closing = ["sh", "-c", 'exec "$@" 2>&-', "sh"]
         ended = room.start_case(one, folder, closing)
         wanted = 5 if one.err else one.status
@@ -305,3 +307,5 @@ def full(room, check, cases, words):
     folder = room.place({"s.tsl": SEEN.encode()})
     ended = room.start(["compile", "s.tsl", "/dev/full"], folder)
     check.judge(ended.is_as(b"", 5, CALL_FAILED), ended, "the code on a full device")
+    ended = room.start(["run", "s.tsl", "--stats", "--save", "/dev/full"], folder, SOME_NUMBERS)
+    check.judge(ended.is_as(SEEN_PRINTED[:26], 5, CALL_FAILED), ended, "the state on a full device")

@@ -21,6 +21,8 @@ PAGE = 4096
 
 SOME_NUMBERS = b"1: i = 5\n2: i = 7\n3: i = 5\n"
 SEEN_PRINTED = b"1: s = false\n2: s = false\n3: s = true\n"
+SEEN_BEGUN, SEEN_REST = SOME_NUMBERS[:22], SOME_NUMBERS[22:]
+SEEN_DUE = SEEN_PRINTED[:13]
 
 # The one line of each status.
 MESSAGES = {
@@ -33,8 +35,9 @@ MESSAGES = {
     5: rb"outside: a call failed\n",
     6: rb"out of memory\n",
     7: rb"limit: [0-9]+ instants before time [0-9]+\n",
+    8: rb"state: (other program|wrong form)\n",
     9: rb"code: (too long|wrong form|wrong types in equation [0-9]+|cycle|plan not fine)\n",
-    10: rb"no output [^\n]+\n",
+    10: rb"no (output [^\n]+|event of [^\n]+ at [0-9]+)\n",
 }
 CALL_FAILED = b"outside: a call failed\n"
 NO_MEMORY = b"out of memory\n"
@@ -49,10 +52,25 @@ def case(name, words, files=(), stdin=b"", out=None, status=0, err=b"", made=())
     return Case(name, words.split(), ready, stdin, out, status, err, dict(made))
 
 
-def code_of_seen():
-    """The code of SEEN, as the row of tests/run has it."""
-    with open(os.path.join(HERE, "..", "cases", "compile_of_numbers_that_came", "made", "s.code"), "rb") as file:
+def made_by_row(row, name):
+    """What a row of tests/run makes of SEEN."""
+    with open(os.path.join(HERE, "..", "cases", row, "made", name), "rb") as file:
         return file.read()
+
+
+def code_of_seen():
+    return made_by_row("compile_of_numbers_that_came", "s.code")
+
+
+def state_of_seen():
+    """The state after SEEN_BEGUN, which ends within a line."""
+    return made_by_row("save_of_numbers_that_came", "state")
+
+
+def quiet_explained():
+    """Why the last event of the heartbeats came."""
+    with open(os.path.join(HERE, "..", "explained", "heartbeats_of_devices"), "rb") as file:
+        return re.split(rb"^(?=#0 )", file.read(), flags=re.M)[-1]
 
 
 def kept_words():
@@ -95,11 +113,28 @@ def all_cases():
         case("flat", "flat s.tsl", h),
         case("slice", "slice s.tsl late", h),
         case("no_output", "slice s.tsl gap", h, out=b"", status=10, err=b"no output gap\n"),
+        case("why", "why s.tsl t quiet 95", h, out=quiet_explained()),
+        case("why_through_a_pipe", "why s.tsl - quiet 95 --instants 5", h, BEATS, out=quiet_explained()),
+        case("no_event", "why s.tsl t quiet 94", h, out=b"", status=10, err=b"no event of quiet at 94\n"),
+        case("why_past_a_fault", "why s.tsl - q 3", {"s.tsl": DIVIDED}, b"1: i = 1\n3: i = 0\n4: i = 1\n", b"", 1,
+             b"3: fault DivideByZero at 2:10\n"),
+        case("why_at_a_refused_line", "why s.tsl - s 2", s, b"1: i = 5\n2: i = 7\n2: i = 6\n", b"", 4, b"trace 3: i twice at one time\n"),
+        case("why_past_the_limit", "why s.tsl --instants 100 - p 200", {"s.tsl": EACH_INSTANT}, b"1000:\n", b"", 7,
+             b"limit: 100 instants before time 100\n"),
         case("code", "code s.tsl", h),
         case("compile", "compile s.tsl c", {**s, "c": "an old file\n"}, out=b"", made={"c": code_of_seen()}),
         case("exec", "exec c t", {"c": code_of_seen(), "t": SOME_NUMBERS}, out=SEEN_PRINTED),
         case("exec_through_a_pipe", "exec - t", {"t": SOME_NUMBERS}, code_of_seen(), out=SEEN_PRINTED),
         case("refused_code", "exec c t", {"c": code_of_seen()[:-1], "t": SOME_NUMBERS}, out=b"", status=9, err=b"code: wrong form\n"),
+        case("saved", "run s.tsl t --save state", {**s, "t": SEEN_BEGUN, "state": "an old file\n"}, out=SEEN_DUE, made={"state": state_of_seen()}),
+        case("resumed", "run s.tsl t --resume state", {**s, "t": SEEN_REST, "state": state_of_seen()}, out=SEEN_PRINTED[13:]),
+        case("resumed_through_a_pipe", "exec c t --resume -", {"c": code_of_seen(), "t": SEEN_REST}, state_of_seen(), out=SEEN_PRINTED[13:]),
+        case("resumed_and_saved", "exec c --resume state --stats --save state", {"c": code_of_seen(), "state": state_of_seen()}, SEEN_REST,
+             out=SEEN_PRINTED[13:26], err=b"stats y 4:28 copied 0\n", made={"state": made_by_row("resume_and_save", "next")}),
+        case("refused_state", "run s.tsl t --resume state", {**s, "t": SEEN_REST, "state": state_of_seen()[:-1]}, out=b"", status=8,
+             err=b"state: wrong form\n"),
+        case("another_state", "run s.tsl absent --resume state --stats", {"s.tsl": HEARTBEATS, "state": state_of_seen()}, out=b"", status=8,
+             err=b"state: other program\n"),
         case("gen", "gen seen 5000", out="".join(f"{k}: i = {k % 1000}\n" for k in range(1, 5001)).encode()),
         case("bench", "bench seen 50"),
         case("show", "show s.tsl", h, out=b"upd 9:12 in place\n"),
@@ -219,7 +254,11 @@ class Room:
         if not one.made:
             return self.start(one.words, folder, one.stdin, before, environment, **how)
         own = self.place(one.files)
-        ended = self.start(one.words, own, one.stdin, before, environment, **how)
+        return self.with_made(self.start(one.words, own, one.stdin, before, environment, **how), one, own)
+
+    @staticmethod
+    def with_made(ended, one, own):
+        """How a start of a case ended, with what it has made in a folder of its own, which is removed."""
         for name in os.listdir(own):
             with open(os.path.join(own, name), "rb") as file:
                 data = file.read()

@@ -234,17 +234,23 @@ def lines(room, check, cases, words):
     check.judge(ended.is_as(b"", 0, b""), ended, "what is run as a code file")
 
     def talks(job):
-        specification, file, trace = job
-        talk = Talk(room, ["exec" if file == "s.code" else "run", file], folder)
-        written, is_due = b"", True
-        for row in trace.splitlines(True):
+        specification, file, trace, *earlier = job
+        written, is_due, more, before, options = b"", True, trace, b"", []
+        for place in earlier:
+            written, more, options = trace[:place], trace[place:], ["--resume", f"state{place}"]
+            before = wanted_of(specification, written, ended=False)[0]
+            saved = room.start(["run", file, "--save", options[1]], folder, written)
+            is_due = saved.is_as(before, 0, b"")
+        talk = Talk(room, ["exec" if file == "s.code" else "run", file, *options], folder)
+        for row in more.splitlines(True):
             if is_due:
                 written += row
                 talk.write(row)
-                is_due = talk.wait_for(wanted_of(specification, written, ended=False)[0])
+                is_due = talk.wait_for(wanted_of(specification, written, ended=False)[0][len(before) :])
         is_due = is_due and not talk.read(0.05)
         ended = talk.close()
-        is_right = is_due and ended.is_as(*wanted_of(specification, trace))
+        out, *end = wanted_of(specification, trace)
+        is_right = is_due and ended.is_as(out[len(before) :], *end)
         what = "" if is_due else f", after {len(written)} bytes not just what is due"
         check.judge(is_right, ended, f"a line at a time{what}", trace=trace)
 
@@ -253,6 +259,8 @@ def lines(room, check, cases, words):
     jobs += [(HEARTBEATS, "s.tsl", long_heartbeats(dice, 150)) for _ in range(6)]
     jobs += [(HEARTBEATS, "s.code", long_heartbeats(dice, 150)) for _ in range(2)]
     jobs += [(ECHO, "e.tsl", random_echo(dice, 120)) for _ in range(6)]
+    jobs += [(HEARTBEATS, "s.tsl", long_heartbeats(dice, 120), place) for place in (700, 901)]
+    jobs += [(ECHO, "e.tsl", random_echo(dice, 120), 333)]
     list(room.pool.map(talks, jobs))
 
 
