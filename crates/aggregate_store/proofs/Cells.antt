@@ -9,7 +9,7 @@ use Rattle.std.specs.Option.{option_map}
 use Rattle.std.specs.Ordering.{eq_by_cmp, nat_cmp}
 use Rattle.tsl_value.specs.View.{View, Plain}
 use Rattle.tsl_value.specs.declared.scalar.Scalar.TheVariants as scalar
-use Rattle.body_eval.specs.inner.Cells.{Cells, IsLive, view_at}
+use Rattle.cell_reader.specs.inner.Cells.{Cells, IsLive, view_at}
 use Rattle.aggregate_store.specs.declared.cell.Cell.{Cell}
 use Rattle.aggregate_store.specs.inner.CellView.{cells_of, entries_from, view_of}
 use Rattle.aggregate_store.specs.inner.Stored.{Stored}

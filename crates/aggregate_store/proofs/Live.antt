@@ -7,7 +7,7 @@ use Rattle.std.specs.Ordering.{eq_by_cmp, nat_cmp}
 use Rattle.std.specs.declared.cmp.Ordering.TheVariants.{Equal}
 use Rattle.tsl_value.specs.View.{View, Plain}
 use Rattle.tsl_value.specs.declared.scalar.Scalar.TheVariants as scalar
-use Rattle.body_eval.specs.inner.Cells.{Cells, IsLive, view_at}
+use Rattle.cell_reader.specs.inner.Cells.{Cells, IsLive, view_at}
 use Rattle.aggregate_store.specs.inner.Stored.{is_listed}
 
 module _ (cells : Cells) (handle : ℕ) (view : View) where

@@ -5,7 +5,7 @@ use Rattle.std.specs.Option.{option_copied}
 use Rattle.std.proofs.lemmas.Bool.{false≢true}
 use Rattle.tsl_value.specs.View.{Listed}
 use Rattle.tsl_value.specs.declared.scalar.Scalar.{Scalar}
-use Rattle.body_eval.specs.inner.Cells.{front_of}
+use Rattle.cell_reader.specs.inner.Cells.{front_of}
 use Rattle.aggregate_store.specs.inner.Stored.{without_front}
 
 -- what a look at the first place lends

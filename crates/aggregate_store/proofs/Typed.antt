@@ -11,7 +11,7 @@ use Rattle.tsl_value.specs.declared.scalar.KeyType.{KeyType}
 use Rattle.tsl_value.specs.declared.scalar.ScalarType.{ScalarType}
 use Rattle.tsl_value.specs.declared.scalar.ValueType.{ValueType}
 use Rattle.tsl_value.specs.declared.scalar.ValueType.TheVariants as value_type
-use Rattle.body_eval.specs.inner.Cells.{Cells, FitsKey, view_at}
+use Rattle.cell_reader.specs.inner.Cells.{Cells, FitsKey, view_at}
 use Rattle.lift_func.proofs.TypedUpdates.{both, first, second, is_of-empty, set_with, set_without, map_with, map_without}
 use Rattle.aggregate_store.specs.inner.Stored.{FitsValue, with_added, without_key}
 use Rattle.aggregate_store.proofs.Live.{has_view}

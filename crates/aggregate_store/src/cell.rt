@@ -3,7 +3,7 @@
 ghost use Rattle.std.specs.Prelude.{◌≡◌, [], ◌∷◌, ◌++◌, IfOk, IsTrue, OnOk, OnErr, drop};
 ghost use Rattle.std.specs.FinMap as map;
 ghost use Rattle.std.specs.Option.{option_copied};
-ghost use Rattle.body_eval.specs.inner.Cells.{front_of, has_key, value_at};
+ghost use Rattle.cell_reader.specs.inner.Cells.{front_of, has_key, value_at};
 ghost use Rattle.tsl_value.specs.Aggregate.{empty_of, is_aggregate, size_of};
 ghost use Rattle.aggregate_store.specs.inner.CellView.{table_of};
 ghost use Rattle.aggregate_store.specs.inner.Stored.{with_added, with_last, without_front, without_key};

@@ -2,7 +2,7 @@
 
 ghost use Rattle.std.specs.Prelude.{◌≡◌, ◌<◌, ◌^◌, None, IfOk, IsTrue, OnOk, OnErr, length, replicate, slice_index, slice_set};
 ghost use Rattle.std.specs.FinMap as finite_map;
-ghost use Rattle.body_eval.specs.inner.Cells.{FitsKey, IsLive, IsQueue, view_at};
+ghost use Rattle.cell_reader.specs.inner.Cells.{FitsKey, IsLive, IsQueue, view_at};
 ghost use Rattle.tsl_value.specs.Aggregate.{empty_of, is_aggregate, size_of};
 ghost use Rattle.aggregate_store.specs.Content.{AllIn, AreInOrder, IsInRange, content_of, content_size, is_of_aggregate, view_in};
 ghost use Rattle.aggregate_store.specs.inner.Stored.{FitsValue, HasFront, counted, is_listed, with_added, with_last};
@@ -12,7 +12,7 @@ use crate::cell::Cell;
 use crate::content::{Content, cell_with, content_of};
 use crate::print::print_cell;
 use crate::slots::{add_note, count, drop_others, free_from};
-use body_eval::reader::Reader;
+use cell_reader::reader::Reader;
 use std::alloc::Global;
 use std::marker::Model;
 use tsl_value::bytes::Bytes;

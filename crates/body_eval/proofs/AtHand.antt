@@ -15,7 +15,8 @@ use Rattle.lift_func.specs.Apply.{apply, and_then, bool, both, contained, int, o
 use Rattle.lift_func.specs.BodyTree.{BodyTree, One, Two}
 use Rattle.tsl_value.specs.Aggregate.{size_of}
 use Rattle.body_eval.specs.inner.Answered.{IsInt}
-use Rattle.body_eval.specs.inner.Cells.{Cells, HoldsLive, IsLive, arguments, has_key, held, view_at}
+use Rattle.cell_reader.specs.inner.Cells.{Cells, IsLive, has_key, view_at}
+use Rattle.body_eval.specs.inner.Registers.{HoldsLive, arguments, held}
 use Rattle.body_eval.specs.inner.Evaluable.{CanRead, IsHeld, IsTypedAt, is_read}
 use Rattle.body_eval.proofs.CellReads.{contained_is, size_is}
 use Rattle.body_eval.proofs.Evaluation.{reads}

@@ -23,7 +23,8 @@ use Rattle.lift_func.specs.declared.fault.FaultKind.TheVariants.{EmptyQueue}
 use Rattle.body_eval.specs.declared.register.Register.{Register}
 use Rattle.body_eval.specs.declared.register.Register.TheVariants as register
 use Rattle.lift_func.specs.Apply.{int, bool, found, of_one, contained, at_key}
-use Rattle.body_eval.specs.inner.Cells.{Cells, FitsKey, HoldsLive, IsMap, IsQueue, front_of, has_key, held, register_of, scalar_in, value_at, view_at}
+use Rattle.cell_reader.specs.inner.Cells.{Cells, FitsKey, IsMap, IsQueue, front_of, has_key, value_at, view_at}
+use Rattle.body_eval.specs.inner.Registers.{HoldsLive, held, register_of, scalar_in}
 use Rattle.body_eval.specs.inner.Evaluable.{CanRead, FitsOperand, IsHeld, IsHeldValue, IsScalarKind, is_read}
 use Rattle.lift_func.proofs.TypedUpdates.{key_of}
 use Rattle.lift_func.specs.Typing as typing

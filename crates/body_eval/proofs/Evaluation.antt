@@ -16,7 +16,8 @@ use Rattle.body_eval.specs.declared.register.Register.{Register}
 use Rattle.body_eval.specs.declared.register.Register.TheVariants as register
 use Rattle.body_eval.specs.inner.Answered.{Decides, IsValue, NeedsSecond}
 use Rattle.lift_func.specs.Apply.{Answer, and_then, of_one, of_two, apply}
-use Rattle.body_eval.specs.inner.Cells.{Cells, HoldsLive, arguments, held, register_of, scalar_in}
+use Rattle.cell_reader.specs.inner.Cells.{Cells}
+use Rattle.body_eval.specs.inner.Registers.{HoldsLive, arguments, held, register_of, scalar_in}
 use Rattle.body_eval.specs.inner.Evaluable.{CanRead, FitsOperand, IsEvaluable, IsHeld, IsHeldValue, IsTypedAt, is_read}
 use Rattle.lift_func.specs.BodyTree.{BodyTree, Argument, One, Two, Choice}
 use Rattle.lift_func.specs.Typing as typing

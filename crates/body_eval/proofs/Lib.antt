@@ -1,4 +1,3 @@
-pub mod NoCells
 pub mod Same
 pub mod Textless
 pub mod CellReads

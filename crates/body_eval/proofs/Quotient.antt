@@ -8,7 +8,8 @@ use Rattle.tsl_value.specs.declared.operation.Unary.TheVariants as unary
 use Rattle.tsl_value.specs.declared.operation.Binary.TheVariants as binary
 use Rattle.body_eval.specs.declared.register.Register.{Register}
 use Rattle.body_eval.specs.declared.register.Register.TheVariants as register
-use Rattle.body_eval.specs.inner.Cells.{Cells, HoldsLive}
+use Rattle.cell_reader.specs.inner.Cells.{Cells}
+use Rattle.body_eval.specs.inner.Registers.{HoldsLive}
 use Rattle.body_eval.specs.inner.Evaluable.{IsEvaluable}
 use Rattle.lift_func.specs.BodyTree.{BodyTree, Literal, Argument, One, Two}
 use Rattle.lift_func.specs.Typing.{plain, neg, literal, argument, arithmetic, one, two}

@@ -16,7 +16,8 @@ use Rattle.body_eval.specs.declared.eval.EvalFault.TheVariants as eval_fault
 use Rattle.body_eval.specs.declared.register.Register.{Register}
 use Rattle.body_eval.specs.declared.register.Register.TheVariants as register
 use Rattle.lift_func.specs.Apply.{Answer, and_then, apply, of_one, of_two}
-use Rattle.body_eval.specs.inner.Cells.{Cells, held, scalar_in}
+use Rattle.cell_reader.specs.inner.Cells.{Cells}
+use Rattle.body_eval.specs.inner.Registers.{held, scalar_in}
 use Rattle.body_eval.specs.inner.Textless.{IsText, IsNoText, HasNoText, IsAnswered, is_text, IsNoTextKind, IsTextless}
 use Rattle.lift_func.specs.BodyTree.{BodyTree, Literal, Argument, Absent, One, Two, Choice}
 use Rattle.lift_func.specs.Typing as typing

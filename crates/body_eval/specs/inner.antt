@@ -1,4 +1,4 @@
 pub mod Textless
 pub mod Answered
-pub mod Cells
+pub mod Registers
 pub mod Evaluable

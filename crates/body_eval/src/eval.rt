@@ -4,7 +4,8 @@ ghost use Rattle.std.specs.Prelude.{◌≡◌, All, IfOk, OnErr, None, slice_ind
 ghost use Rattle.std.specs.Option.{option_map};
 ghost use Rattle.tsl_value.specs.View.{Plain};
 ghost use Rattle.lift_func.specs.Apply.{apply};
-ghost use Rattle.body_eval.specs.inner.Cells.{Cells, HoldsLive, arguments, held};
+ghost use Rattle.cell_reader.specs.inner.Cells.{Cells};
+ghost use Rattle.body_eval.specs.inner.Registers.{HoldsLive, arguments, held};
 ghost use Rattle.body_eval.specs.inner.Evaluable.{IsEvaluable, IsHeldValue, IsTypedAt};
 ghost use Rattle.body_eval.specs.inner.Answered.{IsValue, views};
 ghost use Rattle.body_eval.specs.inner.Textless.{HasNoText, IsAnswered, IsText};
@@ -12,7 +13,7 @@ ghost use Rattle.body_eval.specs.inner.Textless.{HasNoText, IsAnswered, IsText};
 use crate::operation::{apply_binary, apply_unary, decided};
 use crate::quick::at_hand;
 use crate::read::{is_read, read, register_of, scalar_of, unary_at};
-use crate::reader::Reader;
+use cell_reader::reader::Reader;
 use crate::register::Register;
 use lift_func::body::{Body, Node};
 use lift_func::fault::FaultKind;

@@ -6,5 +6,4 @@ pub mod law;
 mod operation;
 mod quick;
 mod read;
-pub mod reader;
 pub mod register;

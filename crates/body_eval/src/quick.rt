@@ -7,12 +7,13 @@ ghost use Rattle.std.specs.Prelude.{◌≡◌, All, IfSome, slice_index_or};
 ghost use Rattle.tsl_value.specs.View.{Plain};
 ghost use Rattle.lift_func.specs.Apply.{apply, of_two};
 ghost use Rattle.lift_func.specs.BodyTree.{One, Two};
-ghost use Rattle.body_eval.specs.inner.Cells.{Cells, HoldsLive, arguments, held};
+ghost use Rattle.cell_reader.specs.inner.Cells.{Cells};
+ghost use Rattle.body_eval.specs.inner.Registers.{HoldsLive, arguments, held};
 ghost use Rattle.body_eval.specs.inner.Evaluable.{IsTypedAt};
 
 use crate::operation::{is_same, quotient, rest};
 use crate::read::int_of;
-use crate::reader::Reader;
+use cell_reader::reader::Reader;
 use crate::register::Register;
 use lift_func::body::{Body, Node};
 use lift_func::faulting::is_arithmetic;

@@ -6,14 +6,15 @@ ghost use Rattle.tsl_value.specs.View.{Plain};
 ghost use Rattle.tsl_value.specs.declared.operation.Unary.TheVariants as unary;
 ghost use Rattle.body_eval.specs.inner.Answered.{IsInt};
 ghost use Rattle.lift_func.specs.Apply.{int, found, of_one, of_two};
-ghost use Rattle.body_eval.specs.inner.Cells.{Cells, FitsKey, HoldsLive, IsLive, IsMap, IsQueue, has_key, held, register_of, scalar_in};
-ghost use Rattle.body_eval.specs.inner.Cells.{value_at, view_at};
+ghost use Rattle.cell_reader.specs.inner.Cells.{Cells, FitsKey, IsLive, IsMap, IsQueue, has_key};
+ghost use Rattle.body_eval.specs.inner.Registers.{HoldsLive, held, register_of, scalar_in};
+ghost use Rattle.cell_reader.specs.inner.Cells.{value_at, view_at};
 ghost use Rattle.body_eval.specs.inner.Evaluable.{CanRead, FitsOperand, IsHeldAnswer, IsHeldValue, is_read};
 ghost use Rattle.body_eval.specs.inner.Textless.{IsAnswered, IsNoText};
 
 use crate::eval::EvalFault;
 use crate::operation::apply_unary;
-use crate::reader::Reader;
+use cell_reader::reader::Reader;
 use crate::register::Register;
 use lift_func::fault::FaultKind;
 use tsl_value::ids::Handle;

@@ -1,7 +1,8 @@
 // Registers.
 
 ghost use Rattle.std.specs.Prelude.{◌≡◌, IfOk, OnErr, is_some, not};
-ghost use Rattle.body_eval.specs.inner.Cells.{Cells, held};
+ghost use Rattle.cell_reader.specs.inner.Cells.{Cells};
+ghost use Rattle.body_eval.specs.inner.Registers.{held};
 ghost use Rattle.body_eval.specs.inner.Textless.{IsText};
 
 use tsl_value::ids::Handle;

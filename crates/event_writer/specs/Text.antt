@@ -6,7 +6,7 @@ use Rattle.lift_func.specs.declared.fault.FaultKind.{FaultKind}
 use Rattle.lift_func.specs.declared.fault.FaultKind.TheVariants as kind
 use Rattle.body_eval.specs.declared.register.Register.{Register}
 use Rattle.body_eval.specs.declared.register.Register.TheVariants as register
-use Rattle.body_eval.specs.inner.Cells.{Cells, IsLive}
+use Rattle.cell_reader.specs.inner.Cells.{Cells, IsLive}
 
 -- a place as LINE:COLUMN
 abbrev pub place_text : Place → List ℕ

@@ -2,12 +2,12 @@
 
 ghost use Rattle.std.specs.Prelude.{◌≡◌, ◌++◌, codes, length, take, OnOk, OnErr};
 ghost use Rattle.std.specs.Fmt.{decimal};
-ghost use Rattle.body_eval.specs.inner.Cells.{held};
+ghost use Rattle.body_eval.specs.inner.Registers.{held};
 ghost use Rattle.flat_core.specs.Text.{event_line};
 ghost use Rattle.event_writer.specs.Text.{IsPrintable};
 
 use crate::short::{append_short, is_short};
-use body_eval::reader::Reader;
+use cell_reader::reader::Reader;
 use body_eval::register::Register;
 use itoa::write_digits;
 use tsl_value::bytes::Bytes;

@@ -7,7 +7,8 @@ use Rattle.tsl_value.specs.View.{View, Plain}
 use Rattle.tsl_value.specs.declared.scalar.Scalar.{Scalar}
 use Rattle.tsl_value.specs.declared.scalar.Scalar.TheVariants as scalar
 use Rattle.lift_func.specs.Apply.{apply, contained, of_two}
-use Rattle.body_eval.specs.inner.Cells.{Cells, FitsKey, HoldsLive, IsLive, has_key, held, view_at}
+use Rattle.cell_reader.specs.inner.Cells.{Cells, FitsKey, IsLive, has_key, view_at}
+use Rattle.body_eval.specs.inner.Registers.{HoldsLive, held}
 use Rattle.body_eval.specs.inner.Evaluable.{CanRead, IsEvaluable, IsHeld, IsTypedAt}
 use Rattle.lift_func.specs.BodyTree.{BodyTree, Two}
 use Rattle.tsl_value.specs.declared.operation.Binary.TheVariants as binary

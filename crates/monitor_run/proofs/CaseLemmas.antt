@@ -13,7 +13,8 @@ use Rattle.tsl_value.specs.declared.scalar.ValueType.{ValueType}
 use Rattle.tsl_value.specs.View.{View}
 use Rattle.body_eval.specs.declared.register.Register.{Register}
 use Rattle.body_eval.specs.declared.register.Register.TheVariants as register
-use Rattle.body_eval.specs.inner.Cells.{Cells, HoldsLive, IsLive, held}
+use Rattle.cell_reader.specs.inner.Cells.{Cells, IsLive}
+use Rattle.body_eval.specs.inner.Registers.{HoldsLive, held}
 use Rattle.body_eval.specs.declared.eval.EvalFault.{EvalFault}
 use Rattle.body_eval.specs.declared.eval.EvalFault.TheVariants as eval_fault
 use Rattle.lift_func.specs.Apply.{Answer}

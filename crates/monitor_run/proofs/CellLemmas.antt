@@ -6,8 +6,9 @@ use Rattle.std.specs.Option.{option_and_then}
 use Rattle.std.specs.FinMap as finite_map
 use Rattle.tsl_value.specs.declared.scalar.ValueType.{ValueType}
 use Rattle.tsl_value.specs.View.{View, Plain, is_of}
-use Rattle.body_eval.specs.inner.Cells as cells
-use Rattle.body_eval.specs.inner.Cells.{Cells, IsLive, HoldsLive, view_at}
+use Rattle.body_eval.specs.inner.Registers as cell_registers
+use Rattle.cell_reader.specs.inner.Cells.{Cells, IsLive, view_at}
+use Rattle.body_eval.specs.inner.Registers.{HoldsLive}
 use Rattle.tsl_value.specs.declared.scalar.Scalar.TheVariants as scalar
 use Rattle.lift_func.specs.Typing.{fits}
 use Rattle.body_eval.specs.declared.register.Register.{Register}
@@ -80,7 +81,7 @@ held-retyped s types c registers handle of fresh held = record {
 -- ---- registers and what the machine has
 
 -- what the machine sees in a live register
-pub seen_is : (c : Cells) (r : Register) → HoldsLive c r → option_and_then (view_of c) (held_by r) ≡ cells.held c r
+pub seen_is : (c : Cells) (r : Register) → HoldsLive c r → option_and_then (view_of c) (held_by r) ≡ cell_registers.held c r
 seen_is c register.Empty live = refl
 seen_is c (register.Scalar s) live = refl
 seen_is c (register.Aggregate h) live = there (finite_map.get c h) refl live.0

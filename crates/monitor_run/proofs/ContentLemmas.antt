@@ -20,7 +20,7 @@ use Rattle.tsl_value.specs.View.{View, Plain, Keyed, Mapped, Listed, Keys, Table
 use Rattle.tsl_value.specs.inner.Laws.{IsInBounds}
 use Rattle.tsl_value.specs.inner.ScalarOrder.{scalar_cmp_total}
 use Rattle.tsl_value.proofs.ScalarOrder.{scalar_cmp-IsAntisymmetric}
-use Rattle.body_eval.specs.inner.Cells.{has_key}
+use Rattle.cell_reader.specs.inner.Cells.{has_key}
 use Rattle.lift_func.proofs.FiniteMaps.{find-lookup}
 use Rattle.aggregate_store.specs.declared.content.Content.{Content}
 use Rattle.aggregate_store.specs.declared.content.Content.TheVariants as content

@@ -17,7 +17,8 @@ use Rattle.std.specs.FinMap as finite_map
 use Rattle.delay_timers.specs.inner.Pending.{Times}
 use Rattle.lift_func.specs.declared.fault.FaultKind.{FaultKind}
 use Rattle.body_eval.specs.declared.register.Register.{Register}
-use Rattle.body_eval.specs.inner.Cells.{Cells, held}
+use Rattle.cell_reader.specs.inner.Cells.{Cells}
+use Rattle.body_eval.specs.inner.Registers.{held}
 use Rattle.flat_core.specs.declared.equation.Equation.{Equation}
 use Rattle.flat_core.specs.declared.equation.Op.TheVariants as op
 use Rattle.flat_core.specs.Events.{refused}

@@ -18,7 +18,8 @@ use Rattle.std.proofs.lemmas.List.Folds.{list_any_more}
 use Rattle.std.specs.Prelude.{◌≢◌, if◌then◌else◌, IsFalse, is_some, slice_index_or}
 use Rattle.body_eval.specs.declared.register.Register.{Register}
 use Rattle.body_eval.specs.declared.register.Register.TheVariants as register
-use Rattle.body_eval.specs.inner.Cells.{Cells, HoldsLive, held}
+use Rattle.cell_reader.specs.inner.Cells.{Cells}
+use Rattle.body_eval.specs.inner.Registers.{HoldsLive, held}
 use Rattle.flat_core.specs.Members.{is_in}
 use Rattle.event_writer.specs.Text.{IsPrintable}
 use Rattle.monitor_run.specs.inner.Instant.{kept_in, kept_register}

@@ -15,7 +15,8 @@ use Rattle.tsl_value.specs.declared.scalar.Scalar.TheVariants as scalar
 use Rattle.tsl_value.specs.declared.scalar.ValueType.{ValueType}
 use Rattle.body_eval.specs.declared.register.Register.{Register}
 use Rattle.body_eval.specs.declared.register.Register.TheVariants as register
-use Rattle.body_eval.specs.inner.Cells.{Cells, HoldsLive, IsLive, held, view_at}
+use Rattle.cell_reader.specs.inner.Cells.{Cells, IsLive, view_at}
+use Rattle.body_eval.specs.inner.Registers.{HoldsLive, held}
 use Rattle.lift_func.specs.Typing.{Optional, fits}
 use Rattle.aggregate_store.specs.inner.Stored.{is_listed}
 use Rattle.flat_core.specs.declared.equation.Equation.{Equation}

@@ -13,7 +13,8 @@ use Rattle.std.specs.List.{flat_map}
 use Rattle.std.specs.Option.{option_map_or}
 use Rattle.tsl_value.specs.declared.scalar.ValueType.{ValueType}
 use Rattle.body_eval.specs.declared.register.Register.{Register}
-use Rattle.body_eval.specs.inner.Cells.{Cells, HoldsLive}
+use Rattle.cell_reader.specs.inner.Cells.{Cells}
+use Rattle.body_eval.specs.inner.Registers.{HoldsLive}
 use Rattle.flat_core.specs.declared.equation.Output.{Output}
 use Rattle.flat_core.specs.Complete.{IsFlat}
 use Rattle.flat_core.specs.System.{System, runs}

@@ -16,7 +16,7 @@ use Rattle.tsl_value.specs.declared.scalar.ValueType.{ValueType}
 use Rattle.tsl_value.specs.declared.scalar.ValueType.TheVariants as value_type
 use Rattle.tsl_value.specs.View.{View, Plain, is_of, is_of_key, is_of_scalar}
 use Rattle.tsl_value.proofs.Lists.{cons_cases, later, none_in_nil}
-use Rattle.body_eval.specs.inner.Cells.{Cells, IsLive, view_at}
+use Rattle.cell_reader.specs.inner.Cells.{Cells, IsLive, view_at}
 use Rattle.lift_func.proofs.TypedUpdates.{first, second, is_of-empty, set_with, map_with}
 use Rattle.aggregate_store.specs.declared.content.Content.{Content}
 use Rattle.aggregate_store.specs.declared.content.Content.TheVariants as content

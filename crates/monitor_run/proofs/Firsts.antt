@@ -6,7 +6,7 @@ use Rattle.std.specs.Prelude.{if◌then◌else◌}
 use Rattle.std.specs.List.{filter}
 use Rattle.tsl_value.proofs.Lists.{with_first, without_first}
 use Rattle.flat_core.specs.Members.{is_in}
-use Rattle.monitor_run.specs.inner.Saved.{firsts}
+use Rattle.monitor_state.specs.Firsts.{firsts}
 use Rattle.monitor_run.specs.inner.Taking.{firsts_with, firsts_on}
 
 abbrev is_other : ℕ → ℕ → Bool

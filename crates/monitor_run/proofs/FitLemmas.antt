@@ -17,7 +17,7 @@ use Rattle.tsl_value.proofs.Aggregates.{elements_of}
 use Rattle.tsl_value.proofs.Lists.{cons_cases, contains_at, contains_map, later, map_contains, none_in_nil}
 use Rattle.body_eval.specs.declared.register.Register.{Register}
 use Rattle.body_eval.specs.declared.register.Register.TheVariants as register
-use Rattle.body_eval.specs.inner.Cells.{view_at}
+use Rattle.cell_reader.specs.inner.Cells.{view_at}
 use Rattle.aggregate_store.specs.declared.content.Content.{Content}
 use Rattle.aggregate_store.specs.Content.{AllIn, AreInOrder, IsInRange, content_of, content_size}
 use Rattle.aggregate_store.proofs.Contents.{contents}
@@ -30,13 +30,14 @@ use Rattle.flat_core.proofs.Members.{all_at, all_from, all_map, in-Contains}
 use Rattle.register_machine.specs.Machine.{Held, Bare, Cell}
 use Rattle.register_machine.specs.Renamed.{Renaming}
 use Rattle.register_machine.specs.Short.{IsShortValue}
-use Rattle.monitor_run.specs.declared.state.MonitorState.{MonitorState}
-use Rattle.monitor_run.specs.declared.state.OpenEvent.{OpenEvent}
-use Rattle.monitor_run.specs.declared.state.SavedRegister.TheVariants as saved
-use Rattle.monitor_run.specs.inner.Fits.{FitsCell, FitsMonitor, FitsRegister, FitsType, named_by, type_at}
-use Rattle.monitor_run.specs.inner.Given.{IsInputOf}
+use Rattle.monitor_state.specs.declared.state.MonitorState.{MonitorState}
+use Rattle.monitor_state.specs.declared.state.OpenEvent.{OpenEvent}
+use Rattle.monitor_state.specs.declared.state.SavedRegister.TheVariants as saved
+use Rattle.monitor_state.specs.Fits.{FitsCell, FitsMonitor, FitsRegister, FitsType, named_by, type_at}
+use Rattle.monitor_state.specs.Inputs.{IsInputOf}
 use Rattle.monitor_run.specs.inner.Registers.{IsHeldOf, register_at}
-use Rattle.monitor_run.specs.inner.Saved.{CanSave, HasState, cell_held, firsts, held_cells, saved_of, value_of}
+use Rattle.monitor_run.specs.inner.Saved.{CanSave, HasState, cell_held, held_cells, saved_of, value_of}
+use Rattle.monitor_state.specs.Firsts.{firsts}
 use Rattle.monitor_run.specs.inner.Shown.{held_at, held_by}
 use Rattle.monitor_run.specs.inner.State.{State, IsReady, kept_state}
 use Rattle.monitor_run.specs.inner.Taking.{InRegister}

@@ -10,7 +10,8 @@ use Rattle.tsl_value.specs.View.{View, Plain, is_of}
 use Rattle.body_eval.specs.declared.register.Register.{Register}
 use Rattle.body_eval.specs.declared.register.Register.TheVariants as register
 use Rattle.lift_func.specs.Apply.{Answer}
-use Rattle.body_eval.specs.inner.Cells.{Cells, HoldsLive}
+use Rattle.cell_reader.specs.inner.Cells.{Cells}
+use Rattle.body_eval.specs.inner.Registers.{HoldsLive}
 use Rattle.lift_func.specs.Typing.{Optional, FitsAnswer}
 use Rattle.aggregate_store.specs.inner.Stored.{Stored}
 use Rattle.flat_core.specs.declared.equation.Equation.{Equation}

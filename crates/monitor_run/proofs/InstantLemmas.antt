@@ -11,7 +11,8 @@ use Rattle.tsl_value.specs.declared.scalar.Scalar.TheVariants as scalar
 use Rattle.tsl_value.specs.declared.scalar.ValueType.{ValueType}
 use Rattle.lift_func.specs.declared.fault.FaultKind.{FaultKind}
 use Rattle.body_eval.specs.declared.register.Register.TheVariants as register
-use Rattle.body_eval.specs.inner.Cells.{Cells, HoldsLive, held}
+use Rattle.cell_reader.specs.inner.Cells.{Cells}
+use Rattle.body_eval.specs.inner.Registers.{HoldsLive, held}
 use Rattle.lift_func.specs.Typing.{Optional, fits}
 use Rattle.aggregate_store.specs.inner.Stored.{Stored, is_listed}
 use Rattle.flat_core.specs.declared.equation.Equation.{Equation}
@@ -37,7 +38,8 @@ use Rattle.register_machine.specs.Run as run
 use Rattle.register_machine.specs.Run.{Plan, root_in, root_seen}
 use Rattle.monitor_run.specs.declared.machine.Machine.{Machine}
 use Rattle.monitor_run.specs.declared.run.Root.{Root}
-use Rattle.monitor_run.specs.inner.Given.{AreEventLines, IsInputOf}
+use Rattle.monitor_run.specs.inner.Given.{AreEventLines}
+use Rattle.monitor_state.specs.Inputs.{IsInputOf}
 use Rattle.flat_core.specs.inner.Arity.{HasArity}
 use Rattle.monitor_run.specs.inner.Here.{is_given_op}
 use Rattle.monitor_run.specs.inner.Instant.{AreInputs, AreTimers, Begins, HasEnded, HasRunAll, HasRunBody, HasRunRegisters, IsLeastRoot, IsSound, StartsAs, cells_in, expired_at, first_value, kept_of, kept_register, refusal_of, root_beside, set_at, with_event}

@@ -8,8 +8,8 @@ use Rattle.std.specs.FinMap as finite_map
 use Rattle.tsl_value.specs.declared.scalar.Scalar.TheVariants as scalar
 use Rattle.body_eval.specs.declared.register.Register.{Register}
 use Rattle.body_eval.specs.declared.register.Register.TheVariants as register
-use Rattle.body_eval.specs.inner.Cells.{Cells}
-use Rattle.body_eval.specs.inner.Cells as cells
+use Rattle.cell_reader.specs.inner.Cells.{Cells}
+use Rattle.body_eval.specs.inner.Registers as cell_registers
 use Rattle.aggregate_store.specs.inner.Stored.{is_listed}
 use Rattle.flat_core.specs.declared.equation.Equation.{Equation}
 use Rattle.flat_core.specs.declared.equation.Op.TheVariants as op
@@ -66,7 +66,7 @@ held_kept register.Empty q = refl
 held_kept (register.Scalar x) q = refl
 held_kept (register.Aggregate h) q = refl
 
-holds_some : (c : Cells) (r : Register) → is_some (cells.held c r) ≡ is_some (held_by r)
+holds_some : (c : Cells) (r : Register) → is_some (cell_registers.held c r) ≡ is_some (held_by r)
 holds_some c register.Empty = refl
 holds_some c (register.Scalar x) = refl
 holds_some c (register.Aggregate h) = refl

@@ -8,7 +8,7 @@ use Rattle.std.specs.Prelude.{◌≢◌, if◌then◌else◌, IsTrue, IsFalse, i
 use Rattle.std.specs.List.{AllByRecursion, list_any}
 use Rattle.std.specs.Option.{option_and_then, option_map}
 use Rattle.tsl_value.specs.declared.scalar.Scalar.TheVariants as scalar
-use Rattle.body_eval.specs.inner.Cells.{HoldsLive}
+use Rattle.body_eval.specs.inner.Registers.{HoldsLive}
 use Rattle.aggregate_store.specs.inner.Stored.{Stored}
 use Rattle.lift_func.specs.declared.fault.FaultKind.{FaultKind}
 use Rattle.flat_core.specs.declared.equation.Equation.{Equation}

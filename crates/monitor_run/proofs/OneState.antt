@@ -9,7 +9,7 @@ use Rattle.tsl_value.specs.declared.scalar.Scalar.{Scalar}
 use Rattle.tsl_value.specs.declared.scalar.Scalar.TheVariants as scalar
 use Rattle.tsl_value.specs.View.{View, Plain}
 use Rattle.aggregate_store.specs.Content.{content_of}
-use Rattle.body_eval.specs.inner.Cells.{view_at}
+use Rattle.cell_reader.specs.inner.Cells.{view_at}
 use Rattle.flat_core.specs.Case.{Streams}
 use Rattle.flat_core.specs.Kept.{keeps_of, timers_of}
 use Rattle.flat_core.specs.Line.{Line, inputs_of}
@@ -25,12 +25,13 @@ use Rattle.register_machine.specs.Run as run
 use Rattle.register_machine.specs.Stands.{RunsTo}
 use Rattle.register_machine.proofs.OneRun.{one_run}
 use Rattle.register_machine.proofs.Renamings.{one_to_one}
-use Rattle.monitor_run.specs.declared.state.MonitorState.{MonitorState}
-use Rattle.monitor_run.specs.declared.state.OpenEvent.{OpenEvent}
-use Rattle.monitor_run.specs.declared.state.SavedRegister.{SavedRegister}
-use Rattle.monitor_run.specs.declared.state.SavedRegister.TheVariants as saved
+use Rattle.monitor_state.specs.declared.state.MonitorState.{MonitorState}
+use Rattle.monitor_state.specs.declared.state.OpenEvent.{OpenEvent}
+use Rattle.monitor_state.specs.declared.state.SavedRegister.{SavedRegister}
+use Rattle.monitor_state.specs.declared.state.SavedRegister.TheVariants as saved
 use Rattle.monitor_run.specs.inner.Resumed.{IsShownAfter, IsStateAfter}
-use Rattle.monitor_run.specs.inner.Saved.{ShowsMachine, cell_held, firsts, held_cells, saved_of, value_of}
+use Rattle.monitor_run.specs.inner.Saved.{ShowsMachine, cell_held, held_cells, saved_of, value_of}
+use Rattle.monitor_state.specs.Firsts.{firsts}
 use Rattle.monitor_run.specs.inner.State.{State, IsReady, plan_of}
 use Rattle.monitor_run.proofs.GapLemmas.{plan_ranked}
 use Rattle.monitor_run.proofs.StepLemmas.{ready_order}

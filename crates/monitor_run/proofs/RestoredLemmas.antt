@@ -21,7 +21,7 @@ use Rattle.tsl_value.proofs.Lists.{all_by_place, cons_cases, contains_at, member
 use Rattle.delay_timers.specs.inner.Pending.{Times}
 use Rattle.body_eval.specs.declared.register.Register.{Register}
 use Rattle.body_eval.specs.declared.register.Register.TheVariants as register
-use Rattle.body_eval.specs.inner.Cells.{Cells, IsLive, view_at}
+use Rattle.cell_reader.specs.inner.Cells.{Cells, IsLive, view_at}
 use Rattle.aggregate_store.specs.declared.content.Content.{Content}
 use Rattle.aggregate_store.specs.declared.content.Content.TheVariants as content
 use Rattle.aggregate_store.specs.Content.{AllIn, AreInOrder, content_of, content_size, is_content_of, is_of_aggregate, view_in}
@@ -40,14 +40,15 @@ use Rattle.register_machine.specs.Machine.{Bare, Cell}
 use Rattle.register_machine.specs.Renamed.{Renaming}
 use Rattle.register_machine.specs.Short.{IsShortState, IsShortView}
 use Rattle.register_machine.specs.Tidy.{IsTidy}
-use Rattle.monitor_run.specs.declared.state.MonitorState.{MonitorState}
-use Rattle.monitor_run.specs.declared.state.SavedRegister.{SavedRegister}
-use Rattle.monitor_run.specs.declared.state.SavedRegister.TheVariants as saved
-use Rattle.monitor_run.specs.inner.Fits.{AreNumbered, FitsCell, FitsMonitor, FitsRegister, FitsType, named_by, type_at}
+use Rattle.monitor_state.specs.declared.state.MonitorState.{MonitorState}
+use Rattle.monitor_state.specs.declared.state.SavedRegister.{SavedRegister}
+use Rattle.monitor_state.specs.declared.state.SavedRegister.TheVariants as saved
+use Rattle.monitor_state.specs.Fits.{AreNumbered, FitsCell, FitsMonitor, FitsRegister, FitsType, named_by, type_at}
 use Rattle.monitor_run.specs.inner.Instant.{AreTimers, AreUnkept, cells_in}
 use Rattle.monitor_run.specs.inner.Registers.{AreHeld, IsHeldOf, register_at}
 use Rattle.monitor_run.specs.inner.Resuming.{IsOnce, IsRestored, placed, register_with}
-use Rattle.monitor_run.specs.inner.Saved.{ShowsMachine, cell_held, firsts, saved_of}
+use Rattle.monitor_run.specs.inner.Saved.{ShowsMachine, cell_held, saved_of}
+use Rattle.monitor_state.specs.Firsts.{firsts}
 use Rattle.monitor_run.specs.inner.Shown.{held_at, held_by, state_of}
 use Rattle.monitor_run.specs.inner.Stored.{is_stored_type, stored_count}
 use Rattle.monitor_run.proofs.ContentLemmas.{bounds_short, short_view}

@@ -19,7 +19,7 @@ use Rattle.register_machine.specs.Stands.{RunsTo}
 use Rattle.register_machine.specs.Tidy.{IsTidy}
 use Rattle.register_machine.proofs.Renamings.{runs_renamed}
 use Rattle.register_machine.proofs.TidyRuns.{instants_tidy}
-use Rattle.monitor_run.specs.declared.state.MonitorState.{MonitorState}
+use Rattle.monitor_state.specs.declared.state.MonitorState.{MonitorState}
 use Rattle.monitor_run.specs.inner.Given.{IsEventLine, line_of}
 use Rattle.monitor_run.specs.inner.Resumed.{IsSavedAs, IsShownAfter, IsStateAfter}
 use Rattle.monitor_run.specs.inner.Stands.{KeepsOf, Stands}

@@ -12,11 +12,12 @@ use Rattle.flat_core.specs.Complete.{IsFlat, IsShort}
 use Rattle.flat_core.specs.Line.{Line, inputs_of}
 use Rattle.flat_core.specs.System.{System}
 use Rattle.alias_rules.specs.Fine.{IsFinePlan}
-use Rattle.monitor_run.specs.declared.state.MonitorState.{MonitorState}
-use Rattle.monitor_run.specs.declared.state.OpenEvent.{OpenEvent}
-use Rattle.monitor_run.specs.inner.Fits.{FitsMonitor}
+use Rattle.monitor_state.specs.declared.state.MonitorState.{MonitorState}
+use Rattle.monitor_state.specs.declared.state.OpenEvent.{OpenEvent}
+use Rattle.monitor_state.specs.Fits.{FitsMonitor}
 use Rattle.monitor_run.specs.inner.Instant.{AreTimers}
-use Rattle.monitor_run.specs.inner.Given.{AreAt, AreEventLines, AreOnce, IsInputOf, IsShortLine, line_of}
+use Rattle.monitor_run.specs.inner.Given.{AreAt, AreEventLines, AreOnce, IsShortLine, line_of}
+use Rattle.monitor_state.specs.Inputs.{IsInputOf}
 use Rattle.monitor_run.specs.inner.Resumed.{IsSavedAs}
 use Rattle.monitor_run.specs.inner.Resuming.{IsRestored}
 use Rattle.monitor_run.specs.inner.Saved.{AreOpenAt, value_of}

@@ -13,8 +13,9 @@ use Rattle.body_eval.specs.declared.eval.EvalFault.TheVariants as eval_fault
 use Rattle.lift_func.specs.declared.fault.FaultKind.{FaultKind}
 use Rattle.body_eval.specs.declared.register.Register.{Register}
 use Rattle.body_eval.specs.declared.register.Register.TheVariants as register
-use Rattle.body_eval.specs.inner.Cells as cells
-use Rattle.body_eval.specs.inner.Cells.{IsLive, HoldsLive}
+use Rattle.body_eval.specs.inner.Registers as cell_registers
+use Rattle.cell_reader.specs.inner.Cells.{IsLive}
+use Rattle.body_eval.specs.inner.Registers.{HoldsLive}
 use Rattle.aggregate_store.specs.inner.Stored.{Stored, counted}
 use Rattle.flat_core.specs.declared.equation.Equation.{Equation}
 use Rattle.flat_core.specs.declared.equation.Op.{Op}
@@ -304,7 +305,7 @@ module _ (inputs : Inputs) (in_place : Bool) (t i : ℕ) (e : Equation) (old new
           live_args : (args : List ℕ) → e.args ≡ args → AllByRecursion (λ a. HoldsLive old.store.cells (register_at old.registers.items a)) args
           live_args args at = subst (AllByRecursion (λ a. HoldsLive old.store.cells (register_at old.registers.items a))) at live
 
-          source_is : (args : List ℕ) → e.args ≡ args → is_update e.op ≡ true → size_at (cells.held old.store.cells (source_of old.registers.items args)) ≡ machine.source_size c args
+          source_is : (args : List ℕ) → e.args ≡ args → is_update e.op ≡ true → size_at (cell_registers.held old.store.cells (source_of old.registers.items args)) ≡ machine.source_size c args
           source_is [] at so = refl
           source_is (m ∷ args) at so =
               let slot = source_used (λ a. c.slots a ≡ slot_of (held_at old.registers.items a)) e.op m args so (used_slots (m ∷ args) at) in

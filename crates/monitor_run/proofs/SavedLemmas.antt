@@ -14,7 +14,8 @@ use Rattle.tsl_value.specs.View.{View, Plain}
 use Rattle.tsl_value.specs.declared.scalar.ValueType.{ValueType}
 use Rattle.body_eval.specs.declared.register.Register.{Register}
 use Rattle.body_eval.specs.declared.register.Register.TheVariants as register
-use Rattle.body_eval.specs.inner.Cells.{Cells, HoldsLive, IsLive, view_at}
+use Rattle.cell_reader.specs.inner.Cells.{Cells, IsLive, view_at}
+use Rattle.body_eval.specs.inner.Registers.{HoldsLive}
 use Rattle.aggregate_store.specs.Content.{content_of}
 use Rattle.flat_core.specs.Complete.{IsFlat}
 use Rattle.flat_core.specs.Instant.{is_delay}
@@ -26,11 +27,12 @@ use Rattle.flat_core.proofs.Depth.{runs_below}
 use Rattle.flat_core.proofs.Members.{all_append, all_from, in-Contains}
 use Rattle.program_text.proofs.Numbers.{numbers_with, numbers_without}
 use Rattle.register_code.proofs.Gathered.{gathered_more}
-use Rattle.monitor_run.specs.declared.state.MonitorState.{MonitorState}
-use Rattle.monitor_run.specs.declared.state.OpenEvent.{OpenEvent}
+use Rattle.monitor_state.specs.declared.state.MonitorState.{MonitorState}
+use Rattle.monitor_state.specs.declared.state.OpenEvent.{OpenEvent}
 use Rattle.monitor_run.specs.inner.Given.{AreAt, AreEventLines}
 use Rattle.monitor_run.specs.inner.Registers.{AreHeld, register_at}
-use Rattle.monitor_run.specs.inner.Saved.{AreOpenAt, CanSave, HasState, cell_held, firsts, saved_of, value_of}
+use Rattle.monitor_run.specs.inner.Saved.{AreOpenAt, CanSave, HasState, cell_held, saved_of, value_of}
+use Rattle.monitor_state.specs.Firsts.{firsts}
 use Rattle.monitor_run.specs.inner.Shown.{held_at, held_by}
 use Rattle.monitor_run.specs.inner.State.{State, IsReady}
 use Rattle.monitor_run.specs.inner.Taking.{event_for, found_for, opened, opened_below}

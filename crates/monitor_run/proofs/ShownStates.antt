@@ -11,7 +11,7 @@ use Rattle.tsl_value.specs.declared.scalar.Scalar.{Scalar}
 use Rattle.tsl_value.specs.declared.scalar.Scalar.TheVariants as scalar
 use Rattle.tsl_value.specs.View.{View, Plain}
 use Rattle.tsl_value.proofs.Lists.{cons_cases, later, none_in_nil}
-use Rattle.body_eval.specs.inner.Cells.{view_at}
+use Rattle.cell_reader.specs.inner.Cells.{view_at}
 use Rattle.aggregate_store.specs.Content.{content_of, view_in}
 use Rattle.aggregate_store.proofs.Contents.{contents}
 use Rattle.flat_core.specs.Kept.{keeps_of, timers_of}
@@ -28,10 +28,11 @@ use Rattle.register_machine.specs.Tidy.{IsTidy}
 use Rattle.register_machine.proofs.Cells.{without, without-other, without-there, without-keeps}
 use Rattle.register_machine.proofs.OneRun.{naming, no_change, swap, swap_first, swap_other}
 use Rattle.register_machine.proofs.Renamings.{one_to_one}
-use Rattle.monitor_run.specs.declared.state.MonitorState.{MonitorState}
-use Rattle.monitor_run.specs.declared.state.SavedRegister.TheVariants as saved
+use Rattle.monitor_state.specs.declared.state.MonitorState.{MonitorState}
+use Rattle.monitor_state.specs.declared.state.SavedRegister.TheVariants as saved
 use Rattle.monitor_run.specs.inner.Resuming.{IsOnce}
-use Rattle.monitor_run.specs.inner.Saved.{ShowsMachine, cell_held, firsts, held_cells, saved_of}
+use Rattle.monitor_run.specs.inner.Saved.{ShowsMachine, cell_held, held_cells, saved_of}
+use Rattle.monitor_state.specs.Firsts.{firsts}
 use Rattle.monitor_run.proofs.OneState.{place_renamed}
 
 -- ---- members

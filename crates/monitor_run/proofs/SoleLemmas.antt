@@ -8,7 +8,8 @@ use Rattle.std.specs.Ordering.{eq_by_cmp, nat_cmp}
 use Rattle.tsl_value.specs.declared.scalar.ValueType.{ValueType}
 use Rattle.body_eval.specs.declared.register.Register.{Register}
 use Rattle.body_eval.specs.declared.register.Register.TheVariants as register
-use Rattle.body_eval.specs.inner.Cells.{Cells, HoldsLive, IsLive}
+use Rattle.cell_reader.specs.inner.Cells.{Cells, IsLive}
+use Rattle.body_eval.specs.inner.Registers.{HoldsLive}
 use Rattle.aggregate_store.specs.inner.Stored.{is_listed}
 use Rattle.flat_core.specs.Complete.{IsFlat}
 use Rattle.flat_core.specs.Members.{is_in}

@@ -8,7 +8,7 @@ use Rattle.flat_core.specs.Instant.{instants}
 use Rattle.flat_core.specs.Line.{Line, inputs_of}
 use Rattle.flat_core.specs.Solution.{Solves}
 use Rattle.register_machine.specs.Run.{Runs, nothing_yet}
-use Rattle.monitor_run.specs.declared.state.MonitorState.{MonitorState}
+use Rattle.monitor_state.specs.declared.state.MonitorState.{MonitorState}
 use Rattle.monitor_run.specs.inner.Resumed.{IsSavedAs, IsShownAfter, IsStateAfter}
 use Rattle.monitor_run.specs.inner.Stands.{Stands}
 use Rattle.monitor_run.specs.inner.State.{State, kept_state, plan_of}

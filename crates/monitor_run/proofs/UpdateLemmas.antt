@@ -13,7 +13,8 @@ use Rattle.tsl_value.specs.declared.scalar.ValueType.{ValueType}
 use Rattle.tsl_value.specs.declared.scalar.ValueType.TheVariants as value_type
 use Rattle.tsl_value.specs.View.{View, Plain, Keyed, Mapped, Listed, is_of}
 use Rattle.tsl_value.proofs.Aggregates.{elements_of}
-use Rattle.body_eval.specs.inner.Cells.{Cells, FitsKey, HoldsLive, IsLive, IsQueue, held, view_at}
+use Rattle.cell_reader.specs.inner.Cells.{Cells, FitsKey, IsLive, IsQueue, view_at}
+use Rattle.body_eval.specs.inner.Registers.{HoldsLive, held}
 use Rattle.body_eval.specs.declared.eval.EvalFault.{EvalFault}
 use Rattle.lift_func.specs.declared.fault.FaultKind.TheVariants.{EmptyQueue}
 use Rattle.body_eval.specs.declared.register.Register.{Register}

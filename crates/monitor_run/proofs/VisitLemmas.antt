@@ -12,7 +12,8 @@ use Rattle.alias_rules.proofs.Ordered.{needed_order}
 use Rattle.alias_rules.proofs.Ranks.{not_in_take, one_place}
 use Rattle.lift_func.specs.declared.fault.FaultKind.{FaultKind}
 use Rattle.std.specs.FinMap as finite_map
-use Rattle.body_eval.specs.inner.Cells.{Cells, HoldsLive, held}
+use Rattle.cell_reader.specs.inner.Cells.{Cells}
+use Rattle.body_eval.specs.inner.Registers.{HoldsLive, held}
 use Rattle.body_eval.specs.declared.register.Register.{Register}
 use Rattle.body_eval.specs.declared.register.Register.TheVariants as register
 use Rattle.flat_core.specs.declared.equation.Equation.{Equation}

@@ -13,7 +13,6 @@ pub mod Stands
 pub mod Steps
 pub mod AnyMonitor
 pub mod Saved
-pub mod Fits
 pub mod Taking
 pub mod Resuming
 pub mod Resumed

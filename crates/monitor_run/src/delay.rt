@@ -4,7 +4,8 @@ ghost use Rattle.std.specs.Prelude.{◌≡◌, ◌≢◌, ◌<◌, ◌||◌, ℕ
 ghost use Rattle.std.specs.FinMap as map;
 ghost use Rattle.std.specs.Option.{option_map};
 ghost use Rattle.tsl_value.specs.declared.scalar.ValueType.{ValueType};
-ghost use Rattle.body_eval.specs.inner.Cells.{Cells, HoldsLive, held};
+ghost use Rattle.cell_reader.specs.inner.Cells.{Cells};
+ghost use Rattle.body_eval.specs.inner.Registers.{HoldsLive, held};
 ghost use Rattle.flat_core.specs.Events.{refused};
 ghost use Rattle.flat_core.specs.Complete.{IsFlat};
 ghost use Rattle.flat_core.specs.Members.{is_in};

@@ -3,7 +3,7 @@
 ghost use Rattle.std.specs.Prelude.{◌≡◌, ◌<◌, ◌&&◌, ◌||◌, ℕ, All, false, if◌then◌else◌, length, map, slice_index_or, slice_set, OnOk, OnErr};
 ghost use Rattle.std.specs.Prelude.{IsFalse, IsTrue};
 ghost use Rattle.std.specs.FinMap as finite_map;
-ghost use Rattle.body_eval.specs.inner.Cells.{IsLive};
+ghost use Rattle.cell_reader.specs.inner.Cells.{IsLive};
 ghost use Rattle.aggregate_store.specs.inner.Stored.{is_listed};
 ghost use Rattle.flat_core.specs.Members.{is_in};
 ghost use Rattle.monitor_run.specs.inner.Instant.{cells_in, kept_in, kept_register};

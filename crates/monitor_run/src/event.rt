@@ -3,7 +3,7 @@
 
 ghost use Rattle.std.specs.Prelude.{◌≡◌, ◌<◌, ◌++◌, ℕ, [], is_some, length, slice_index_or, slice_set, IfOk, IsTrue, OnOk, OnErr};
 ghost use Rattle.std.specs.List.{flat_map};
-ghost use Rattle.body_eval.specs.inner.Cells.{HoldsLive};
+ghost use Rattle.body_eval.specs.inner.Registers.{HoldsLive};
 ghost use Rattle.flat_core.specs.Text.{event_line};
 ghost use Rattle.monitor_run.specs.inner.Begun.{IsBegunOf};
 ghost use Rattle.monitor_run.specs.inner.Machine.{CanPrint, front_of, texts_with};

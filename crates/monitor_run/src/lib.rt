@@ -16,7 +16,6 @@ mod next;
 mod restored;
 mod run;
 mod saved;
-pub mod state;
 mod tables;
 mod update;
 mod visits;

@@ -6,7 +6,7 @@ ghost use Rattle.std.specs.FinMap as map;
 ghost use Rattle.flat_core.specs.Line.{Line};
 ghost use Rattle.flat_core.specs.Updates.{is_running_update};
 ghost use Rattle.monitor_run.specs.inner.AnyMonitor.{HasSteppedAny};
-ghost use Rattle.monitor_run.specs.inner.Fits.{FitsMonitor};
+ghost use Rattle.monitor_state.specs.Fits.{FitsMonitor};
 ghost use Rattle.monitor_run.specs.inner.Given.{line_of};
 ghost use Rattle.monitor_run.specs.inner.Next.{IsIdle};
 ghost use Rattle.monitor_run.specs.inner.Resumed.{IsSavedAs, IsStateAfter};
@@ -24,11 +24,11 @@ use crate::run::Root;
 use crate::saved::{
     assert_in_time, contents, held_cells, ledger_of, open_events, pending_times, saved_registers,
 };
-use crate::state::MonitorState;
 use crate::tables::Tables;
 use crate::visits::Visits;
 use flat_core::line::TraceLine;
 use lift_func::fault::FaultKind;
+use monitor_state::state::MonitorState;
 use register_code::code::Code;
 use std::alloc::Global;
 use std::marker::Model;

@@ -6,7 +6,7 @@ ghost use Rattle.std.specs.FinMap as finite_map;
 ghost use Rattle.std.specs.List.{AllByRecursion};
 ghost use Rattle.aggregate_store.specs.Content.{AreInOrder, is_of_aggregate};
 ghost use Rattle.flat_core.specs.Updates.{running_updates};
-ghost use Rattle.monitor_run.specs.inner.Fits.{FitsMonitor, named_by};
+ghost use Rattle.monitor_state.specs.Fits.{FitsMonitor, named_by};
 ghost use Rattle.monitor_run.specs.inner.Given.{line_of};
 ghost use Rattle.monitor_run.specs.inner.Machine.{AreUnmarked, HasRoom};
 ghost use Rattle.monitor_run.specs.inner.Registers.{register_at};
@@ -14,13 +14,13 @@ ghost use Rattle.monitor_run.specs.inner.Resuming.{HasCells, IsOnce, IsRestored,
 ghost use Rattle.monitor_run.specs.inner.Visits.{IsAtRest};
 
 use crate::machine::{Machine, put};
-use crate::state::{MonitorState, OpenEvent, SavedRegister};
 use aggregate_store::content::Content;
 use aggregate_store::store::Store;
 use body_eval::register::Register;
 use delay_timers::timers::Timers;
 use flat_core::flat::Flat;
 use flat_core::line::TraceLine;
+use monitor_state::state::{MonitorState, OpenEvent, SavedRegister};
 use register_code::code::Code;
 use std::alloc::Global;
 use tsl_value::ids::{EqId, Handle};

@@ -7,7 +7,7 @@ ghost use Rattle.agenda.specs.inner.Marks.{has_mark};
 ghost use Rattle.alias_rules.specs.Fine.{IsFinePlan};
 ghost use Rattle.tsl_value.specs.declared.scalar.ValueType.{ValueType};
 ghost use Rattle.lift_func.specs.declared.fault.FaultKind.{FaultKind};
-ghost use Rattle.body_eval.specs.inner.Cells.{HoldsLive};
+ghost use Rattle.body_eval.specs.inner.Registers.{HoldsLive};
 ghost use Rattle.flat_core.specs.Complete.{IsFlat};
 ghost use Rattle.flat_core.specs.Text.{event_line};
 ghost use Rattle.flat_core.specs.inner.Arity.{HasArity};

@@ -5,23 +5,24 @@ ghost use Rattle.std.specs.Prelude.{position, slice_index, unwrap_or};
 ghost use Rattle.std.specs.FinMap as finite_map;
 ghost use Rattle.std.specs.List.{AllByRecursion, flat_map};
 ghost use Rattle.std.specs.Option.{option_copied};
-ghost use Rattle.body_eval.specs.inner.Cells.{IsLive, view_at};
+ghost use Rattle.cell_reader.specs.inner.Cells.{IsLive, view_at};
 ghost use Rattle.aggregate_store.specs.Content.{AllIn, IsInRange, content_of, content_size};
 ghost use Rattle.flat_core.specs.Updates.{running_updates};
 ghost use Rattle.monitor_run.specs.inner.Given.{AreAt};
-ghost use Rattle.monitor_run.specs.inner.Saved.{cell_held, firsts, saved_of};
+ghost use Rattle.monitor_run.specs.inner.Saved.{cell_held, saved_of};
+ghost use Rattle.monitor_state.specs.Firsts.{firsts};
 ghost use Rattle.monitor_run.specs.inner.Shown.{held_at, held_by};
 ghost use Rattle.monitor_run.specs.inner.Taking.{InRegister, event_for, firsts_with, found_for, opened, opened_below};
 
-use crate::state::{
-    Cells, Numbers, OpenEvent, OpenEvents, PendingTimes, SavedRegister, SavedRegisters,
-};
 use aggregate_store::range::assert_in_range;
 use aggregate_store::store::Store;
 use body_eval::register::Register;
 use delay_timers::timers::Timers;
 use flat_core::flat::Flat;
 use flat_core::line::TraceLine;
+use monitor_state::state::{
+    Cells, Numbers, OpenEvent, OpenEvents, PendingTimes, SavedRegister, SavedRegisters,
+};
 use std::alloc::Global;
 use tsl_value::ids::{EqId, Handle};
 use tsl_value::memory::NoMemory;

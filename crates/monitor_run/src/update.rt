@@ -2,8 +2,9 @@
 
 ghost use Rattle.std.specs.Prelude.{◌≡◌, ◌<◌, All, Some, Ok, [], ◌∷◌, suc, IfOk, OnErr, length, map};
 ghost use Rattle.std.specs.Option.{option_copied};
-ghost use Rattle.body_eval.specs.inner.Cells.{FitsKey, IsLive, IsQueue, held, view_at};
-ghost use Rattle.body_eval.specs.inner.Cells as cells;
+ghost use Rattle.cell_reader.specs.inner.Cells.{FitsKey, IsLive, IsQueue, view_at};
+ghost use Rattle.body_eval.specs.inner.Registers.{held};
+ghost use Rattle.body_eval.specs.inner.Registers as cell_registers;
 ghost use Rattle.lift_func.specs.Update.{beside, update_answer};
 ghost use Rattle.aggregate_store.specs.inner.Stored.{FitsValue, HasFront, with_added, with_last, without_front, without_key};
 ghost use Rattle.monitor_run.specs.inner.Here.{HasAnswer, HasUpdated, HoldsNoScalar, IsBare, IsRemoval, TakesUpdate, made_of};
@@ -13,8 +14,8 @@ ghost use Rattle.monitor_run.specs.inner.Registers.{register_at, value_at};
 use crate::case::argument;
 use aggregate_store::store::Store;
 use body_eval::eval::EvalFault;
-use body_eval::reader::Reader;
 use body_eval::register::Register;
+use cell_reader::reader::Reader;
 use flat_core::lists::Args;
 use lift_func::fault::FaultKind;
 use tsl_value::ids::{EqId, Handle};
@@ -134,7 +135,7 @@ fn cell_of(register: &Register) -> Option<Handle>
 /// The scalar that a register holds, if any.
 fn scalar_of(register: &Register) -> Option<&Scalar>
     requires { IsBare register.now }
-    ensures { cells.register_of (option_copied result) ≡ register.now }
+    ensures { cell_registers.register_of (option_copied result) ≡ register.now }
 {
     match register {
         Register::Empty => None,

@@ -12,7 +12,7 @@ use crate::value::{Held, Value};
 use aggregate_store::cell::Cell;
 use aggregate_store::print::print_cell;
 use body_eval::eval::{EvalFault, eval};
-use body_eval::reader::Reader;
+use cell_reader::reader::Reader;
 use body_eval::register::Register;
 use lift_func::body::Body;
 use std::alloc::Global;

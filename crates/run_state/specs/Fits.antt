@@ -4,7 +4,7 @@ use Rattle.tsl_value.specs.declared.limits.TheConstants.{MOST_INSTANTS, MOST_TRA
 use Rattle.flat_core.specs.System.{System}
 use Rattle.trace_reader.specs.inner.LastTime.{or_zero}
 use Rattle.trace_reader.specs.inner.Saved.{FitsReader}
-use Rattle.monitor_run.specs.inner.Fits.{FitsMonitor}
+use Rattle.monitor_state.specs.Fits.{FitsMonitor}
 use Rattle.run_state.specs.declared.state.RunState.{RunState}
 
 -- the limits are those that a user can ask for

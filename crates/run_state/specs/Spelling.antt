@@ -9,10 +9,10 @@ use Rattle.tsl_value.specs.declared.scalar.Scalar.TheVariants as scalar
 use Rattle.register_code.specs.Code.{Code}
 use Rattle.register_code.specs.Text.{code_text}
 use Rattle.trace_reader.specs.declared.state.ReaderState.{ReaderState}
-use Rattle.monitor_run.specs.declared.state.MonitorState.{MonitorState}
-use Rattle.monitor_run.specs.declared.state.OpenEvent.{OpenEvent}
-use Rattle.monitor_run.specs.declared.state.SavedRegister.{SavedRegister}
-use Rattle.monitor_run.specs.declared.state.SavedRegister.TheVariants as saved
+use Rattle.monitor_state.specs.declared.state.MonitorState.{MonitorState}
+use Rattle.monitor_state.specs.declared.state.OpenEvent.{OpenEvent}
+use Rattle.monitor_state.specs.declared.state.SavedRegister.{SavedRegister}
+use Rattle.monitor_state.specs.declared.state.SavedRegister.TheVariants as saved
 use Rattle.run_state.specs.declared.state.RunState.{RunState}
 
 -- eight bytes, the highest first

@@ -1,6 +1,6 @@
 // The state of a run over a trace.
 
-use monitor_run::state::MonitorState;
+use monitor_state::state::MonitorState;
 use trace_reader::state::ReaderState;
 
 /// All that a run needs to go on: how its lines are judged, how far it may go, and what its reader and its monitor keep.

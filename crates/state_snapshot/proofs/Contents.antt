@@ -20,7 +20,7 @@ use Rattle.tsl_value.specs.inner.ScalarOrder.{scalar_cmp_total}
 use Rattle.aggregate_store.specs.declared.content.Content.{Content}
 use Rattle.aggregate_store.specs.declared.content.Content.TheVariants as content
 use Rattle.aggregate_store.specs.Content.{AllIn, AreInOrder, content_size, is_content_of}
-use Rattle.monitor_run.specs.declared.state.OpenEvent.{OpenEvent}
+use Rattle.monitor_state.specs.declared.state.OpenEvent.{OpenEvent}
 use Rattle.run_state.specs.Spelling.{content_bytes, entry_bytes, number, scalar_bytes}
 use Rattle.state_snapshot.specs.inner.Reading.{◌>>=◌, as_scalar, content_at, entry_at, if_entries, if_keys, is_entry_below, is_event_below, is_key_below, items_at, map_at, number_at, queue_at, rise_by, scalar_at, set_at}
 use Rattle.state_snapshot.proofs.Formats.{IsBytes, IsFormat, Takes, Takes-then, bind_some, items_again, items_take, number_format, passed_test, some_is}

@@ -27,12 +27,12 @@ use Rattle.trace_reader.specs.declared.state.ReaderState.{ReaderState}
 use Rattle.trace_reader.specs.Form.{split_once}
 use Rattle.trace_reader.specs.inner.LastTime.{or_zero}
 use Rattle.trace_reader.specs.inner.Saved.{FitsReader, IsRest}
-use Rattle.monitor_run.specs.declared.state.MonitorState.{MonitorState}
-use Rattle.monitor_run.specs.declared.state.OpenEvent.{OpenEvent}
-use Rattle.monitor_run.specs.declared.state.SavedRegister.{SavedRegister}
-use Rattle.monitor_run.specs.declared.state.SavedRegister.TheVariants as saved
-use Rattle.monitor_run.specs.inner.Fits.{AreInstants, AreOpen, FitsMonitor, FitsRegister, FitsType, named_by}
-use Rattle.monitor_run.specs.inner.Given.{IsInputOf}
+use Rattle.monitor_state.specs.declared.state.MonitorState.{MonitorState}
+use Rattle.monitor_state.specs.declared.state.OpenEvent.{OpenEvent}
+use Rattle.monitor_state.specs.declared.state.SavedRegister.{SavedRegister}
+use Rattle.monitor_state.specs.declared.state.SavedRegister.TheVariants as saved
+use Rattle.monitor_state.specs.Fits.{AreInstants, AreOpen, FitsMonitor, FitsRegister, FitsType, named_by}
+use Rattle.monitor_state.specs.Inputs.{IsInputOf}
 use Rattle.run_state.specs.declared.state.RunState.{RunState}
 use Rattle.run_state.specs.Fits.{AreLimits, FitsRun}
 use Rattle.state_snapshot.specs.inner.Reading.{are_instants, are_limits, fields_at, fits_reader, fits_rest, is_from, is_open_at, is_rest, kept_types, type_of_kept, with_seen}

@@ -5,7 +5,7 @@ use Rattle.tsl_value.specs.declared.scalar.ValueType.{ValueType}
 use Rattle.aggregate_store.specs.declared.content.Content.{Content}
 use Rattle.flat_core.specs.declared.equation.Equation.{Equation}
 use Rattle.flat_core.specs.System.{System, equation}
-use Rattle.monitor_run.specs.declared.state.SavedRegister.{SavedRegister}
+use Rattle.monitor_state.specs.declared.state.SavedRegister.{SavedRegister}
 use Rattle.state_snapshot.specs.declared.fault.StateFault.{StateFault}
 use Rattle.state_snapshot.specs.declared.fault.StateFault.TheVariants as fault
 use Rattle.state_snapshot.specs.inner.Reading.{◌>>=◌, Fails, Read, cells_at, content_at, items_at, kept_types, register_at, registers_at, rise_by, type_of_kept}

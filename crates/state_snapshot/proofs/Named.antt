@@ -18,10 +18,10 @@ use Rattle.aggregate_store.specs.Content.{AllIn, AreInOrder, content_size, is_co
 use Rattle.flat_core.specs.declared.equation.Equation.{Equation}
 use Rattle.flat_core.specs.Members.{is_in}
 use Rattle.flat_core.specs.System.{System, equation}
-use Rattle.monitor_run.specs.declared.state.SavedRegister.{SavedRegister}
-use Rattle.monitor_run.specs.declared.state.SavedRegister.TheVariants as saved
-use Rattle.monitor_run.specs.inner.Fits.{FitsCell, FitsRegister, FitsType, named_by, type_at}
-use Rattle.monitor_run.specs.inner.Saved.{firsts}
+use Rattle.monitor_state.specs.declared.state.SavedRegister.{SavedRegister}
+use Rattle.monitor_state.specs.declared.state.SavedRegister.TheVariants as saved
+use Rattle.monitor_state.specs.Fits.{FitsCell, FitsRegister, FitsType, named_by, type_at}
+use Rattle.monitor_state.specs.Firsts.{firsts}
 use Rattle.run_state.specs.Spelling.{content_bytes}
 use Rattle.state_snapshot.specs.inner.Reading.{◌>>=◌, cells_at, content_at, kept_types, named, named_before, type_of_kept}
 use Rattle.state_snapshot.proofs.Formats.{IsBytes, Takes, Takes-then, bind_some, some_is}

@@ -3,7 +3,7 @@ use Rattle.std.proofs.Common.{◌≡◌, ◌==◌, ℕ, ◌+◌, ◌<◌, ◌≤
 use Rattle.std.specs.List.{filter}
 use Rattle.std.proofs.lemmas.Bool.{and_from, and_left, and_right, cases_Bool, cases_lt, eq-eqb, le-leb, leb-false, leb-true, ne_eqb}
 use Rattle.tsl_value.proofs.Lists.{with_first, without_first}
-use Rattle.monitor_run.specs.inner.Saved.{firsts}
+use Rattle.monitor_state.specs.Firsts.{firsts}
 
 -- the numbers from n on, each where it comes first
 abbrev pub new_from : ℕ → List ℕ → List ℕ

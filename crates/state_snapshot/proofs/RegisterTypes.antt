@@ -13,9 +13,9 @@ use Rattle.tsl_value.specs.declared.scalar.ScalarType.{ScalarType}
 use Rattle.tsl_value.specs.declared.scalar.ScalarType.TheVariants as scalar_type
 use Rattle.tsl_value.specs.declared.scalar.ValueType.{ValueType}
 use Rattle.tsl_value.specs.declared.scalar.ValueType.TheVariants as value_type
-use Rattle.monitor_run.specs.declared.state.SavedRegister.{SavedRegister}
-use Rattle.monitor_run.specs.declared.state.SavedRegister.TheVariants as saved
-use Rattle.monitor_run.specs.inner.Fits.{named_by}
+use Rattle.monitor_state.specs.declared.state.SavedRegister.{SavedRegister}
+use Rattle.monitor_state.specs.declared.state.SavedRegister.TheVariants as saved
+use Rattle.monitor_state.specs.Fits.{named_by}
 use Rattle.run_state.specs.Spelling.{number, register_bytes, scalar_bytes}
 use Rattle.state_snapshot.specs.inner.Reading.{◌>>=◌, bare_at, cell_at, is_key_type, is_scalar_type, is_type, named, named_before, number_at, register_at, registers_at, scalar_at}
 use Rattle.state_snapshot.proofs.Formats.{IsBytes, IsBytes-rest, Takes, Takes-then, bind_some, number_format, passed_first, passed_test, some_is}

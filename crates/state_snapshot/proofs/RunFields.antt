@@ -20,10 +20,10 @@ use Rattle.trace_reader.specs.declared.state.ReaderState.{ReaderState}
 use Rattle.trace_reader.specs.Reading.{is_input}
 use Rattle.trace_reader.specs.inner.LastTime.{or_zero}
 use Rattle.trace_reader.proofs.JudgedLemmas.{only_input}
-use Rattle.monitor_run.specs.declared.state.MonitorState.{MonitorState}
-use Rattle.monitor_run.specs.declared.state.OpenEvent.{OpenEvent}
-use Rattle.monitor_run.specs.declared.state.SavedRegister.{SavedRegister}
-use Rattle.monitor_run.specs.inner.Given.{IsInputOf}
+use Rattle.monitor_state.specs.declared.state.MonitorState.{MonitorState}
+use Rattle.monitor_state.specs.declared.state.OpenEvent.{OpenEvent}
+use Rattle.monitor_state.specs.declared.state.SavedRegister.{SavedRegister}
+use Rattle.monitor_state.specs.Inputs.{IsInputOf}
 use Rattle.run_state.specs.declared.state.RunState.{RunState}
 use Rattle.run_state.specs.Spelling.{content_bytes, event_bytes, events_bytes, flag, kept_bytes, number, optional, options_bytes, reader_bytes, register_bytes, scalar_bytes, text}
 use Rattle.state_snapshot.specs.inner.Reading.{◌>>=◌, cells_at, event_at, events_at, fields_at, flag_at, if_events, input_type, is_event_below, items_at, kept_types, monitor_at, number_at, optional_at, reader_at, registers_at, rise_by, scalar_at, scalar_in, text_at}

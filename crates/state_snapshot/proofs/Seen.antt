@@ -9,7 +9,7 @@ use Rattle.flat_core.specs.Members.{is_in}
 use Rattle.flat_core.proofs.Rising.{same_rising}
 use Rattle.trace_reader.specs.Form.{split_once}
 use Rattle.trace_reader.proofs.SplitLemmas.{split_once-none, split_once-some}
-use Rattle.monitor_run.specs.declared.state.OpenEvent.{OpenEvent}
+use Rattle.monitor_state.specs.declared.state.OpenEvent.{OpenEvent}
 
 abbrev pub ids_of : List OpenEvent → List ℕ
 ids_of es = map (λ e. e.equation) es

@@ -5,7 +5,7 @@ ghost use Rattle.trace_reader.specs.Form.{split_once};
 ghost use Rattle.state_snapshot.specs.inner.Reading.{are_instants, are_limits, fits_reader, fits_rest, is_from, is_open_at};
 ghost use Rattle.std.specs.List.{list_all};
 
-use monitor_run::state::{MonitorState, OpenEvents, PendingTimes};
+use monitor_state::state::{MonitorState, OpenEvents, PendingTimes};
 use run_state::state::RunState;
 use trace_reader::limits::MOST_LINE_BYTES;
 use trace_reader::state::ReaderState;

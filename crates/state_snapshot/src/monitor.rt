@@ -12,7 +12,7 @@ use crate::fields::{Read, read_number, read_optional, read_scalar};
 use crate::registers::read_register;
 use flat_core::equation::{Equation, Op};
 use flat_core::flat::Flat;
-use monitor_run::state::{
+use monitor_state::state::{
     Cells, MonitorState, Numbers, OpenEvent, OpenEvents, PendingTimes, SavedRegisters,
 };
 use register_code::code::Code;

@@ -12,7 +12,7 @@ use crate::fields::{Read, read_flag, read_number, read_optional, read_text};
 use crate::monitor::read_monitor;
 use crate::write::MARK;
 use flat_core::lists::EqSet;
-use monitor_run::state::OpenEvent;
+use monitor_state::state::OpenEvent;
 use register_code::code::Code;
 use register_code::print::print_code;
 use run_state::state::RunState;

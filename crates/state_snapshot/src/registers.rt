@@ -6,7 +6,7 @@ ghost use Rattle.state_snapshot.specs.inner.Reading.{Gives, bare_at, cell_at, is
 
 use crate::fault::StateFault;
 use crate::fields::{Read, read_number, read_scalar};
-use monitor_run::state::SavedRegister;
+use monitor_state::state::SavedRegister;
 use std::alloc::Global;
 use tsl_value::scalar::ValueType;
 

@@ -7,7 +7,7 @@ ghost use Rattle.run_state.specs.Spelling.{content_bytes, entry_bytes, event_byt
 ghost use Rattle.run_state.specs.Spelling.{optional, options_bytes, reader_bytes, register_bytes, scalar_bytes, spelling, text};
 
 use aggregate_store::content::Content;
-use monitor_run::state::{MonitorState, OpenEvent, SavedRegister};
+use monitor_state::state::{MonitorState, OpenEvent, SavedRegister};
 use register_code::code::Code;
 use register_code::print::print_code;
 use run_state::state::RunState;

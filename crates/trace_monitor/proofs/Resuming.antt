@@ -29,8 +29,8 @@ use Rattle.monitor_run.proofs.LawLemmas.{idle_ends}
 use Rattle.monitor_run.proofs.MonitorLemmas.{none_left}
 use Rattle.monitor_run.proofs.OpenLemmas.{input_there}
 use Rattle.monitor_run.proofs.StepLemmas.{ready_order}
-use Rattle.monitor_run.specs.declared.state.OpenEvent.{OpenEvent}
-use Rattle.monitor_run.specs.inner.Fits.{FitsMonitor}
+use Rattle.monitor_state.specs.declared.state.OpenEvent.{OpenEvent}
+use Rattle.monitor_state.specs.Fits.{FitsMonitor}
 use Rattle.monitor_run.specs.inner.Given.{AreAt, AreEventLines}
 use Rattle.monitor_run.specs.inner.Next.{IsIdle}
 use Rattle.monitor_run.specs.inner.Resumed.{IsStateAfter}

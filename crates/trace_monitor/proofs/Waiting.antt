@@ -19,7 +19,8 @@ use Rattle.monitor_run.proofs.MonitorLemmas.{late}
 use Rattle.monitor_run.specs.declared.monitor.Stop.{Stop}
 use Rattle.monitor_run.specs.declared.monitor.Stop.TheVariants as stop
 use Rattle.monitor_run.specs.inner.AnyMonitor.{HasRunAny, NamesRunning}
-use Rattle.monitor_run.specs.inner.Given.{AreAt, IsInputOf}
+use Rattle.monitor_run.specs.inner.Given.{AreAt}
+use Rattle.monitor_state.specs.Inputs.{IsInputOf}
 use Rattle.monitor_run.specs.inner.Next.{IsIdle}
 use Rattle.monitor_run.specs.inner.Saved.{CanSave}
 use Rattle.monitor_run.specs.inner.State as engine

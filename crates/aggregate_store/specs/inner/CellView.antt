@@ -4,7 +4,7 @@ use Rattle.std.specs.BTreeMap.{BTreeMap}
 use Rattle.std.specs.FinMap as finite_map
 use Rattle.tsl_value.specs.View.{View, Keyed, Mapped, Listed, Table}
 use Rattle.tsl_value.specs.declared.scalar.Scalar.{Scalar}
-use Rattle.body_eval.specs.inner.Cells.{Cells}
+use Rattle.cell_reader.specs.inner.Cells.{Cells}
 use Rattle.aggregate_store.specs.declared.cell.Cell.{Cell}
 use Rattle.aggregate_store.specs.declared.cell.Cell.TheVariants as cell
 

@@ -9,7 +9,7 @@ use Rattle.tsl_value.specs.inner.ViewCode.{view_code}
 use Rattle.tsl_value.specs.declared.scalar.Scalar.{Scalar}
 use Rattle.tsl_value.specs.declared.scalar.Scalar.TheVariants as scalar
 use Rattle.tsl_value.specs.declared.scalar.ScalarType.{ScalarType}
-use Rattle.body_eval.specs.inner.Cells.{Cells}
+use Rattle.cell_reader.specs.inner.Cells.{Cells}
 
 -- the views of the cells by their handles, and the ledger: how many elements each update has copied
 pub record Stored : Type 0 where

@@ -11,7 +11,8 @@ use Rattle.lift_func.specs.declared.fault.FaultKind.{FaultKind}
 use Rattle.body_eval.specs.declared.register.Register.{Register}
 use Rattle.body_eval.specs.declared.register.Register.TheVariants as register
 use Rattle.lift_func.specs.Apply.{Answer}
-use Rattle.body_eval.specs.inner.Cells.{Cells, FitsKey, HoldsLive, IsMap, arguments, held, view_at}
+use Rattle.cell_reader.specs.inner.Cells.{Cells, FitsKey, IsMap, view_at}
+use Rattle.body_eval.specs.inner.Registers.{HoldsLive, arguments, held}
 use Rattle.lift_func.specs.BodyTree.{BodyTree}
 use Rattle.lift_func.specs.Typing.{ValueKind, Value, Optional, TypesOne, HasKind, AllFit, fits}
 

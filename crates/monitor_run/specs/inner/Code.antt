@@ -3,7 +3,7 @@ use Rattle.std.specs.Coded.{Coded, coded_ℕ}
 use Rattle.std.specs.FinMap as map
 use Rattle.tsl_value.specs.inner.ViewCode.{view_code}
 use Rattle.delay_timers.specs.inner.Pending.{Times}
-use Rattle.body_eval.specs.inner.Cells.{Cells}
+use Rattle.cell_reader.specs.inner.Cells.{Cells}
 
 abbrev pub cells_code : Coded Cells
 cells_code = map.code coded_ℕ view_code

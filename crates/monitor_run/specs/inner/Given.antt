@@ -1,20 +1,11 @@
 -- The events that a monitor was given, each as a line.
-use Rattle.std.specs.Prelude.{◌≡◌, ℕ, suc, ◌≤◌, List, [], ◌∷◌, Some, None, IsTrue}
+use Rattle.std.specs.Prelude.{◌≡◌, ℕ, suc, ◌≤◌, List, [], ◌∷◌, Some, None}
 use Rattle.std.specs.List.{AllByRecursion}
 use Rattle.tsl_value.specs.declared.scalar.Scalar.{Scalar}
-use Rattle.tsl_value.specs.View.{Plain, is_of}
-use Rattle.flat_core.specs.declared.equation.Equation.{Equation}
-use Rattle.flat_core.specs.declared.equation.Op.TheVariants as op
 use Rattle.flat_core.specs.Complete.{IsShort}
 use Rattle.flat_core.specs.Line.{Line, IsSorted, inputs_of}
-use Rattle.flat_core.specs.System.{System, equation}
-
--- the value is one of an input
-pub record IsInputOf (s : System) (i : ℕ) (value : Scalar) : Type 0 where
-  pub at : Equation
-  pub is : equation s i ≡ Some at
-  pub op_is : at.op ≡ op.Input
-  pub typed : IsTrue (is_of at.of (Plain value))
+use Rattle.flat_core.specs.System.{System}
+use Rattle.monitor_state.specs.Inputs.{IsInputOf}
 
 abbrev pub line_of : ℕ → ℕ → Scalar → Line
 line_of time i value = record { time = time; event = Some (i, value) }

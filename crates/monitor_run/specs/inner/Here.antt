@@ -14,7 +14,8 @@ use Rattle.body_eval.specs.declared.eval.EvalFault.{EvalFault}
 use Rattle.body_eval.specs.declared.eval.EvalFault.TheVariants as eval_fault
 use Rattle.body_eval.specs.declared.register.Register.{Register}
 use Rattle.body_eval.specs.declared.register.Register.TheVariants as register
-use Rattle.body_eval.specs.inner.Cells.{Cells, IsLive, HoldsLive, held, view_at}
+use Rattle.cell_reader.specs.inner.Cells.{Cells, IsLive, view_at}
+use Rattle.body_eval.specs.inner.Registers.{HoldsLive, held}
 use Rattle.lift_func.specs.Update.{UpdateTypes}
 use Rattle.lift_func.specs.Apply.{Answer}
 use Rattle.body_eval.specs.inner.Evaluable.{IsHeldValue}

@@ -9,7 +9,7 @@ use Rattle.flat_core.specs.Solution.{Solves}
 use Rattle.flat_core.specs.System.{System}
 use Rattle.register_machine.specs.Run as run
 use Rattle.register_machine.specs.Stands.{RunsTo}
-use Rattle.monitor_run.specs.declared.state.MonitorState.{MonitorState}
+use Rattle.monitor_state.specs.declared.state.MonitorState.{MonitorState}
 use Rattle.monitor_run.specs.inner.Given.{AreGiven}
 use Rattle.monitor_run.specs.inner.Saved.{AreOpenAt, CanSave, HasState, ShowsMachine}
 use Rattle.monitor_run.specs.inner.Stands.{Stands}

@@ -5,15 +5,15 @@ use Rattle.std.specs.FinMap as finite_map
 use Rattle.delay_timers.specs.inner.Pending.{Times}
 use Rattle.body_eval.specs.declared.register.Register.{Register}
 use Rattle.body_eval.specs.declared.register.Register.TheVariants as register
-use Rattle.body_eval.specs.inner.Cells.{Cells, IsLive}
+use Rattle.cell_reader.specs.inner.Cells.{Cells, IsLive}
 use Rattle.aggregate_store.specs.declared.content.Content.{Content}
 use Rattle.aggregate_store.specs.Content.{view_in}
 use Rattle.flat_core.specs.Kept.{keeps_of, timers_of}
 use Rattle.flat_core.specs.System.{System}
 use Rattle.flat_core.specs.Updates.{running_updates}
-use Rattle.monitor_run.specs.declared.state.MonitorState.{MonitorState}
-use Rattle.monitor_run.specs.declared.state.SavedRegister.{SavedRegister}
-use Rattle.monitor_run.specs.declared.state.SavedRegister.TheVariants as saved
+use Rattle.monitor_state.specs.declared.state.MonitorState.{MonitorState}
+use Rattle.monitor_state.specs.declared.state.SavedRegister.{SavedRegister}
+use Rattle.monitor_state.specs.declared.state.SavedRegister.TheVariants as saved
 use Rattle.monitor_run.specs.inner.Registers.{register_at}
 
 -- the register of a saved one, where the cells have these handles

@@ -1,9 +1,9 @@
 -- What a monitor keeps, as a state apart from it.
-use Rattle.std.specs.Prelude.{◌≡◌, ◌==◌, ℕ, not, List, [], ◌∷◌, map, Option, Some, None, if◌then◌else◌, nat_eq, position, unwrap_or}
-use Rattle.std.specs.List.{filter, flat_map}
+use Rattle.std.specs.Prelude.{◌≡◌, ◌==◌, ℕ, List, [], ◌∷◌, map, Option, Some, None, if◌then◌else◌, nat_eq, position, unwrap_or}
+use Rattle.std.specs.List.{flat_map}
 use Rattle.std.specs.List.Sorted.{IsStrictlyIncreasing}
 use Rattle.tsl_value.specs.View.{View, Plain}
-use Rattle.body_eval.specs.inner.Cells.{view_at}
+use Rattle.cell_reader.specs.inner.Cells.{view_at}
 use Rattle.aggregate_store.specs.Content.{content_of}
 use Rattle.flat_core.specs.Kept.{keeps_of, timers_of}
 use Rattle.flat_core.specs.Line.{Line, inputs_of}
@@ -11,18 +11,14 @@ use Rattle.flat_core.specs.System.{System}
 use Rattle.flat_core.specs.Updates.{running_updates}
 use Rattle.register_machine.specs.Machine.{Held, Bare, Cell}
 use Rattle.register_machine.specs.Run as run
-use Rattle.monitor_run.specs.declared.state.MonitorState.{MonitorState}
-use Rattle.monitor_run.specs.declared.state.OpenEvent.{OpenEvent}
-use Rattle.monitor_run.specs.declared.state.SavedRegister.{SavedRegister}
-use Rattle.monitor_run.specs.declared.state.SavedRegister.TheVariants as saved
+use Rattle.monitor_state.specs.Firsts.{firsts}
+use Rattle.monitor_state.specs.declared.state.MonitorState.{MonitorState}
+use Rattle.monitor_state.specs.declared.state.OpenEvent.{OpenEvent}
+use Rattle.monitor_state.specs.declared.state.SavedRegister.{SavedRegister}
+use Rattle.monitor_state.specs.declared.state.SavedRegister.TheVariants as saved
 use Rattle.monitor_run.specs.inner.Given.{AreAt}
 use Rattle.monitor_run.specs.inner.Next.{IsIdle}
 use Rattle.monitor_run.specs.inner.State.{State, kept_state}
-
--- each number where it comes first
-abbrev pub firsts : List ℕ → List ℕ
-firsts [] = []
-firsts (x ∷ xs) = x ∷ filter (λ y. not (y == x)) (firsts xs)
 
 -- ---- what a monitor keeps
 

@@ -4,7 +4,7 @@ use Rattle.std.specs.FinMap as finite_map
 use Rattle.delay_timers.specs.inner.Pending.{Times}
 use Rattle.body_eval.specs.declared.register.Register.{Register}
 use Rattle.body_eval.specs.declared.register.Register.TheVariants as register
-use Rattle.body_eval.specs.inner.Cells.{Cells}
+use Rattle.cell_reader.specs.inner.Cells.{Cells}
 use Rattle.aggregate_store.specs.inner.Stored.{Stored}
 use Rattle.register_machine.specs.Machine.{Held, Bare, Cell, Slot, held, is_failed, slot_of, Config}
 use Rattle.register_machine.specs.Run as run

@@ -5,7 +5,7 @@ use Rattle.std.specs.FinMap as map
 use Rattle.tsl_value.specs.declared.scalar.ValueType.{ValueType}
 use Rattle.delay_timers.specs.inner.Pending.{Times}
 use Rattle.body_eval.specs.declared.register.Register.{Register}
-use Rattle.body_eval.specs.inner.Cells.{Cells}
+use Rattle.cell_reader.specs.inner.Cells.{Cells}
 use Rattle.flat_core.specs.Complete.{IsFlat}
 use Rattle.flat_core.specs.Line.{Line}
 use Rattle.flat_core.specs.System.{System}

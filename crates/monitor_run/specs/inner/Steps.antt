@@ -18,7 +18,8 @@ use Rattle.register_machine.specs.Laws.{Reaches}
 use Rattle.register_machine.specs.Machine.{Config}
 use Rattle.register_machine.specs.Run.{Instant}
 use Rattle.flat_core.specs.Updates.{is_running_update}
-use Rattle.monitor_run.specs.inner.Given.{AreAt, IsInputOf}
+use Rattle.monitor_run.specs.inner.Given.{AreAt}
+use Rattle.monitor_state.specs.Inputs.{IsInputOf}
 use Rattle.monitor_run.specs.inner.Next.{IsFirstInstant, NoInstant}
 use Rattle.monitor_run.specs.inner.Stands.{Stands}
 use Rattle.monitor_run.specs.inner.State.{State, kept_state, plan_of}

@@ -5,9 +5,9 @@ use Rattle.std.specs.Option.{option_or}
 use Rattle.tsl_value.specs.declared.scalar.Scalar.{Scalar}
 use Rattle.flat_core.specs.Line.{Line}
 use Rattle.flat_core.specs.Members.{is_in}
-use Rattle.monitor_run.specs.declared.state.OpenEvent.{OpenEvent}
-use Rattle.monitor_run.specs.declared.state.SavedRegister.{SavedRegister}
-use Rattle.monitor_run.specs.declared.state.SavedRegister.TheVariants as saved
+use Rattle.monitor_state.specs.declared.state.OpenEvent.{OpenEvent}
+use Rattle.monitor_state.specs.declared.state.SavedRegister.{SavedRegister}
+use Rattle.monitor_state.specs.declared.state.SavedRegister.TheVariants as saved
 
 -- the scalar of a saved register, if it has one, has a property
 abbrev pub InRegister : (Scalar → Type 0) → SavedRegister → Type 0

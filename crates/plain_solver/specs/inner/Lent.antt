@@ -5,7 +5,7 @@ use Rattle.std.specs.FinMap as finite_map
 use Rattle.tsl_value.specs.View.{View, Plain}
 use Rattle.body_eval.specs.declared.register.Register.{Register}
 use Rattle.body_eval.specs.declared.register.Register.TheVariants as register
-use Rattle.body_eval.specs.inner.Cells.{Cells}
+use Rattle.cell_reader.specs.inner.Cells.{Cells}
 use Rattle.body_eval.specs.inner.Evaluable.{IsScalarKind}
 use Rattle.lift_func.specs.BodyTree.{BodyTree}
 use Rattle.lift_func.specs.Typing.{ValueKind, HasKind, AllFit}

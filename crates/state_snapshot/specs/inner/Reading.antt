@@ -29,10 +29,10 @@ use Rattle.trace_reader.specs.declared.state.ReaderState.{ReaderState}
 use Rattle.trace_reader.specs.Form.{split_once}
 use Rattle.trace_reader.specs.Reading.{is_input}
 use Rattle.trace_reader.specs.inner.LastTime.{or_zero}
-use Rattle.monitor_run.specs.declared.state.MonitorState.{MonitorState}
-use Rattle.monitor_run.specs.declared.state.OpenEvent.{OpenEvent}
-use Rattle.monitor_run.specs.declared.state.SavedRegister.{SavedRegister}
-use Rattle.monitor_run.specs.declared.state.SavedRegister.TheVariants as saved
+use Rattle.monitor_state.specs.declared.state.MonitorState.{MonitorState}
+use Rattle.monitor_state.specs.declared.state.OpenEvent.{OpenEvent}
+use Rattle.monitor_state.specs.declared.state.SavedRegister.{SavedRegister}
+use Rattle.monitor_state.specs.declared.state.SavedRegister.TheVariants as saved
 use Rattle.state_snapshot.specs.declared.fault.StateFault.{StateFault}
 use Rattle.state_snapshot.specs.declared.fault.StateFault.TheVariants as fault
 use Rattle.run_state.specs.declared.state.RunState.{RunState}

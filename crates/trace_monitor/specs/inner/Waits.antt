@@ -8,7 +8,7 @@ use Rattle.flat_core.specs.Line.{Line, inputs_of}
 use Rattle.trace_reader.specs.Reading.{is_among}
 use Rattle.trace_reader.specs.inner.LastTime.{or_zero}
 use Rattle.trace_reader.specs.inner.Reader.{AwaitsMore, Reader}
-use Rattle.monitor_run.specs.inner.Given.{IsInputOf}
+use Rattle.monitor_state.specs.Inputs.{IsInputOf}
 use Rattle.monitor_run.specs.inner.Next.{IsIdle}
 use Rattle.monitor_run.specs.inner.Saved.{CanSave}
 use Rattle.monitor_run.specs.inner.State as engine

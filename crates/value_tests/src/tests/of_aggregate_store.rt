@@ -1,9 +1,9 @@
 // Each call, with ample memory.
 
-ghost use Rattle.body_eval.specs.inner.Cells.{IsLive};
+ghost use Rattle.cell_reader.specs.inner.Cells.{IsLive};
 
 use aggregate_store::store::Store;
-use body_eval::reader::Reader;
+use cell_reader::reader::Reader;
 use std::alloc::Global;
 use std::test::Fail;
 use tsl_value::bytes::Bytes;

@@ -2,7 +2,7 @@ use Rattle.std.proofs.Common.{rules, ◌≡◌, Err, sym, subst, ◌∙◌}
 use Rattle.std.proofs.lemmas.Result.{err_from_is_err_and}
 use Rattle.std.specs.Option.{option_map}
 use Rattle.tsl_value.specs.View.{Plain}
-use Rattle.body_eval.specs.inner.Cells.{arguments, held}
+use Rattle.body_eval.specs.inner.Registers.{arguments, held}
 use Rattle.body_eval.specs.inner.Textless.{HasNoText, IsNoText, IsText}
 use Rattle.lift_func.specs.Apply.{apply}
 use Rattle.body_eval.specs.inner.Evaluable.{IsHeld}

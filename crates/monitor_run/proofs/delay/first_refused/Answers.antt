@@ -1,7 +1,7 @@
 use Rattle.std.proofs.Common.{◌<◌, length, sym, ap, subst, ◌∙◌, arith}
 use Rattle.std.proofs.lemmas.List.{get_or_default}
 use Rattle.std.specs.Prelude.{IsTrue}
-use Rattle.body_eval.specs.inner.Cells.{HoldsLive, held}
+use Rattle.body_eval.specs.inner.Registers.{HoldsLive, held}
 use Rattle.flat_core.specs.Members.{is_in}
 use Rattle.flat_core.specs.System.{equation}
 use Rattle.flat_core.specs.Kept.{is_timer}

@@ -2,7 +2,7 @@ use Rattle.std.proofs.Common.{◌≡◌, sym, ap, subst, ◌∙◌, arith}
 use Rattle.std.proofs.lemmas.List.{get_or_default}
 use Rattle.std.specs.Prelude.{if◌then◌else◌}
 use Rattle.std.specs.FinMap as finite_map
-use Rattle.body_eval.specs.inner.Cells.{HoldsLive, held}
+use Rattle.body_eval.specs.inner.Registers.{HoldsLive, held}
 use Rattle.body_eval.specs.declared.register.Register.TheVariants as register
 use Rattle.flat_core.specs.Pending.{reached}
 use Rattle.register_machine.specs.Stands.{in_time}

@@ -2,7 +2,7 @@ use Rattle.std.proofs.Common.{◌≡◌, ℕ, take}
 use Rattle.std.specs.Prelude.{if◌then◌else◌}
 use Rattle.std.specs.FinMap as finite_map
 use Rattle.tsl_value.specs.declared.scalar.ValueType.{ValueType}
-use Rattle.body_eval.specs.inner.Cells.{Cells}
+use Rattle.cell_reader.specs.inner.Cells.{Cells}
 use Rattle.flat_core.specs.Members.{is_in}
 use Rattle.flat_core.specs.System.{equation}
 use Rattle.monitor_run.specs.inner.Instant.{set_at}

@@ -2,7 +2,7 @@ use Rattle.std.proofs.Common.{◌≡◌, ap, not, sym, subst, arith, ◌∙◌}
 use Rattle.std.proofs.lemmas.List.{get_or_default}
 use Rattle.body_eval.specs.declared.register.Register.{Register}
 use Rattle.body_eval.specs.declared.register.Register.TheVariants as register
-use Rattle.body_eval.specs.inner.Cells.{HoldsLive}
+use Rattle.body_eval.specs.inner.Registers.{HoldsLive}
 use Rattle.monitor_run.specs.inner.Registers.{register_at}
 use Rattle.monitor_run.proofs.EndLemmas.{is_printable}
 use Rattle.monitor_run.proofs.event.add_line.Goals as goal

@@ -5,7 +5,7 @@ use Rattle.std.specs.List.{All, flat_map}
 use Rattle.flat_core.specs.Kept.{is_timer}
 use Rattle.step_uses.specs.Uses.{row}
 use Rattle.tsl_value.specs.declared.scalar.ValueType.{ValueType}
-use Rattle.body_eval.specs.inner.Cells.{Cells}
+use Rattle.cell_reader.specs.inner.Cells.{Cells}
 use Rattle.flat_core.specs.Members.{is_in}
 use Rattle.flat_core.specs.System.{equation}
 use Rattle.monitor_run.specs.inner.Instant.{IsLeastRoot, refusal_of}

@@ -4,7 +4,7 @@ use Rattle.std.proofs.lemmas.Slice.Zip.{either_empty_from_Zip}
 use Rattle.std.specs.Prelude.{slice_set}
 use Rattle.std.specs.List.{AllByRecursion}
 use Rattle.body_eval.specs.declared.register.Register.TheVariants.{Empty}
-use Rattle.monitor_run.specs.inner.Fits.{named_by}
+use Rattle.monitor_state.specs.Fits.{named_by}
 use Rattle.monitor_run.specs.inner.Registers.{register_at}
 use Rattle.monitor_run.specs.inner.Resuming.{register_with}
 use Rattle.monitor_run.proofs.Placed.{first_all, mapped_over, placed_next, placed_over, rest_all, rest_once, value_set}

@@ -1,6 +1,6 @@
 use Rattle.std.proofs.Common.{◌≡◌, ◌<◌, ℕ, map, length}
 use Rattle.std.specs.List.{All, AllByRecursion}
-use Rattle.monitor_run.specs.inner.Fits.{named_by}
+use Rattle.monitor_state.specs.Fits.{named_by}
 use Rattle.monitor_run.specs.inner.Registers.{register_at}
 use Rattle.monitor_run.specs.inner.Resuming.{IsOnce, placed, register_with}
 use Rattle.monitor_run.proofs.restored.set_registers.Given as goal

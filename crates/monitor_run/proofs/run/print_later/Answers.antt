@@ -2,7 +2,7 @@ use Rattle.std.proofs.Common.{◌≡◌, get_or, refl, sym, ap, subst, ◌∙◌
 use Rattle.std.proofs.lemmas.List.{with_items_is}
 use Rattle.std.proofs.lemmas.Result.{on_ok_weaker}
 use Rattle.std.specs.Prelude.{slice_set}
-use Rattle.body_eval.specs.inner.Cells.{HoldsLive}
+use Rattle.body_eval.specs.inner.Registers.{HoldsLive}
 use Rattle.flat_core.specs.Text.{event_line}
 use Rattle.monitor_run.specs.inner.Registers.{register_at, value_at}
 use Rattle.monitor_run.proofs.EventLemmas.{name_is, print_is}

@@ -3,7 +3,7 @@ use Rattle.std.specs.Prelude.{if◌then◌else◌}
 use Rattle.agenda.specs.inner.Marks.{has_mark}
 use Rattle.flat_core.specs.Members.{is_in}
 use Rattle.step_uses.specs.Uses.{row}
-use Rattle.body_eval.specs.inner.Cells.{HoldsLive}
+use Rattle.body_eval.specs.inner.Registers.{HoldsLive}
 use Rattle.std.proofs.lemmas.List.{take_all}
 use Rattle.alias_rules.proofs.Ordered.{needed_order}
 use Rattle.register_machine.specs.Content.{print_of}

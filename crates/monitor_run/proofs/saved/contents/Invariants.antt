@@ -1,6 +1,6 @@
 use Rattle.std.proofs.Common.{◌≡◌, ◌<◌, ◌^◌, ◌++◌, map, drop}
 use Rattle.std.specs.List.{AllByRecursion}
-use Rattle.body_eval.specs.inner.Cells.{view_at}
+use Rattle.cell_reader.specs.inner.Cells.{view_at}
 use Rattle.aggregate_store.specs.Content.{AllIn, IsInRange, content_of, content_size}
 use Rattle.monitor_run.proofs.saved.contents.Given as goal
 

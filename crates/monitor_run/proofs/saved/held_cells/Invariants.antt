@@ -1,6 +1,7 @@
 use Rattle.std.proofs.Common.{◌≡◌, drop}
 use Rattle.std.specs.List.{flat_map}
-use Rattle.monitor_run.specs.inner.Saved.{cell_held, firsts}
+use Rattle.monitor_run.specs.inner.Saved.{cell_held}
+use Rattle.monitor_state.specs.Firsts.{firsts}
 use Rattle.monitor_run.specs.inner.Shown.{held_at}
 use Rattle.monitor_run.specs.inner.Taking.{firsts_on}
 use Rattle.monitor_run.proofs.saved.held_cells.Given as goal

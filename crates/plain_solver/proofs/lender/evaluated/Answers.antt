@@ -2,7 +2,7 @@ use Rattle.std.proofs.Common.{ℕ, List, subst, sym, ◌∙◌}
 use Rattle.body_eval.specs.declared.register.Register.{Register}
 use Rattle.body_eval.specs.inner.Answered.{IsValue}
 use Rattle.lift_func.specs.Apply.{apply}
-use Rattle.body_eval.specs.inner.Cells.{arguments}
+use Rattle.body_eval.specs.inner.Registers.{arguments}
 use Rattle.body_eval.specs.inner.Evaluable.{IsEvaluable}
 use Rattle.plain_solver.specs.inner.Lent.{cells_of, registers_from}
 use Rattle.plain_solver.proofs.LentLemmas.{evaluable, lent_arguments}

@@ -1,6 +1,6 @@
 use Rattle.std.proofs.Common.{◌≡◌, ◌++◌, [], ◌∷◌, Option, Some, OnOk, ap, sym, subst, ◌∙◌}
 use Rattle.tsl_value.specs.View.{View}
-use Rattle.body_eval.specs.inner.Cells.{held}
+use Rattle.body_eval.specs.inner.Registers.{held}
 use Rattle.flat_core.specs.Text.{event_line}
 use Rattle.event_writer.specs.Text.{IsPrintable}
 use Rattle.plain_solver.specs.inner.Lent.{cells_of}

@@ -1,7 +1,7 @@
 use Rattle.std.proofs.Common.{sym, ap, ◌∙◌}
 use Rattle.std.specs.Prelude.{is_some}
 use Rattle.tsl_value.specs.inner.ScalarOrder.{scalar_cmp_total}
-use Rattle.body_eval.specs.inner.Cells.{has_key}
+use Rattle.cell_reader.specs.inner.Cells.{has_key}
 use Rattle.aggregate_store.specs.inner.CellView.{view_of}
 use Rattle.aggregate_store.specs.declared.cell.Cell.{Cell}
 use Rattle.lift_func.proofs.FiniteMaps.{get-of_entries}

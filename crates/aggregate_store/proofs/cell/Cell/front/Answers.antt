@@ -1,5 +1,5 @@
 use Rattle.std.proofs.Common.{sym, ap, ◌∙◌}
-use Rattle.body_eval.specs.inner.Cells.{front_of}
+use Rattle.cell_reader.specs.inner.Cells.{front_of}
 use Rattle.aggregate_store.specs.inner.CellView.{view_of}
 use Rattle.aggregate_store.specs.declared.cell.Cell.{Cell}
 use Rattle.aggregate_store.proofs.Queues.{front_found}

@@ -1,6 +1,6 @@
 use Rattle.std.proofs.Common.{sym, ap, ◌∙◌}
 use Rattle.tsl_value.specs.inner.ScalarOrder.{scalar_cmp_total}
-use Rattle.body_eval.specs.inner.Cells.{value_at}
+use Rattle.cell_reader.specs.inner.Cells.{value_at}
 use Rattle.aggregate_store.specs.inner.CellView.{view_of}
 use Rattle.aggregate_store.specs.declared.cell.Cell.{Cell}
 use Rattle.lift_func.proofs.FiniteMaps.{get-of_entries}

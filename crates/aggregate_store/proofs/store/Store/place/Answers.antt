@@ -1,6 +1,6 @@
 use Rattle.std.proofs.Common.{rules, ◌≡◌, Some, None, length, ap, sym, subst}
 use Rattle.std.specs.Prelude.{slice_index_or, slice_set}
-use Rattle.body_eval.specs.inner.Cells.{IsLive}
+use Rattle.cell_reader.specs.inner.Cells.{IsLive}
 use Rattle.aggregate_store.specs.inner.CellView.{cells_of}
 use Rattle.aggregate_store.specs.inner.Stored.{Stored}
 use Rattle.aggregate_store.proofs.Cells.{not_live, placed, pushed, put_slot}

@@ -1,6 +1,7 @@
 use Rattle.std.proofs.Common.{subst, sym}
 use Rattle.tsl_value.proofs.Results.{on_err}
-use Rattle.body_eval.specs.inner.Cells.{Cells, held}
+use Rattle.cell_reader.specs.inner.Cells.{Cells}
+use Rattle.body_eval.specs.inner.Registers.{held}
 use Rattle.body_eval.specs.inner.Textless.{IsText}
 use Rattle.body_eval.proofs.Textless.{text_type}
 use Rattle.body_eval.proofs.register.Register.copy.Goals as goal

@@ -2,15 +2,16 @@ use Rattle.std.proofs.Common.{◌<◌, ◌^◌, refl, length, map, sym, ap, subs
 use Rattle.std.specs.Prelude.{slice_index}
 use Rattle.std.specs.FinMap as finite_map
 use Rattle.std.specs.List.{flat_map}
-use Rattle.body_eval.specs.inner.Cells.{view_at}
+use Rattle.cell_reader.specs.inner.Cells.{view_at}
 use Rattle.aggregate_store.specs.Content.{content_of}
 use Rattle.flat_core.specs.System.{System}
 use Rattle.flat_core.specs.Updates.{running_updates}
-use Rattle.monitor_run.specs.declared.state.MonitorState.{MonitorState}
-use Rattle.monitor_run.specs.inner.Fits.{FitsMonitor}
+use Rattle.monitor_state.specs.declared.state.MonitorState.{MonitorState}
+use Rattle.monitor_state.specs.Fits.{FitsMonitor}
 use Rattle.monitor_run.specs.inner.Given.{AreAt}
 use Rattle.monitor_run.specs.inner.Registers.{AreHeld}
-use Rattle.monitor_run.specs.inner.Saved.{CanSave, HasState, cell_held, firsts, saved_of}
+use Rattle.monitor_run.specs.inner.Saved.{CanSave, HasState, cell_held, saved_of}
+use Rattle.monitor_state.specs.Firsts.{firsts}
 use Rattle.monitor_run.specs.inner.Shown.{held_at}
 use Rattle.monitor_run.specs.inner.State.{State, IsReady}
 use Rattle.monitor_run.specs.inner.Taking.{opened_below}

@@ -1,5 +1,5 @@
 use Rattle.std.proofs.Common.{ap}
-use Rattle.body_eval.specs.inner.Cells.{IsLive}
+use Rattle.cell_reader.specs.inner.Cells.{IsLive}
 use Rattle.aggregate_store.specs.inner.Stored.{Stored}
 use Rattle.aggregate_store.proofs.Live.{is_first, is_live, is_second, still_listed}
 use Rattle.value_tests.proofs.tests.of_aggregate_store.cells_are_dropped.Goals as goal

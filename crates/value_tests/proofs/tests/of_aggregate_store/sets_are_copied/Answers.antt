@@ -5,7 +5,7 @@ use Rattle.tsl_value.specs.declared.scalar.Scalar.TheVariants as scalar
 use Rattle.tsl_value.specs.declared.scalar.KeyType.TheVariants as key_type
 use Rattle.tsl_value.specs.declared.scalar.ValueType.{ValueType}
 use Rattle.tsl_value.specs.declared.scalar.ValueType.TheVariants as value_type
-use Rattle.body_eval.specs.inner.Cells.{FitsKey, view_at}
+use Rattle.cell_reader.specs.inner.Cells.{FitsKey, view_at}
 use Rattle.aggregate_store.specs.inner.Stored.{Stored}
 use Rattle.aggregate_store.proofs.Live.{is_live, still_live, still_view}
 use Rattle.aggregate_store.proofs.Typed.{fits_key, fits_value, typed_added, typed_empty}

@@ -12,12 +12,12 @@ use Rattle.aggregate_store.specs.Content.{AllIn, AreInOrder, content_size, is_co
 use Rattle.flat_core.specs.Kept.{keeps_of, timers_of}
 use Rattle.flat_core.specs.System.{System, equation}
 use Rattle.flat_core.specs.Updates.{running_updates}
-use Rattle.monitor_run.specs.declared.state.MonitorState.{MonitorState}
-use Rattle.monitor_run.specs.declared.state.OpenEvent.{OpenEvent}
-use Rattle.monitor_run.specs.declared.state.SavedRegister.{SavedRegister}
-use Rattle.monitor_run.specs.declared.state.SavedRegister.TheVariants as saved
-use Rattle.monitor_run.specs.inner.Given.{IsInputOf}
-use Rattle.monitor_run.specs.inner.Saved.{firsts}
+use Rattle.monitor_state.specs.declared.state.MonitorState.{MonitorState}
+use Rattle.monitor_state.specs.declared.state.OpenEvent.{OpenEvent}
+use Rattle.monitor_state.specs.declared.state.SavedRegister.{SavedRegister}
+use Rattle.monitor_state.specs.declared.state.SavedRegister.TheVariants as saved
+use Rattle.monitor_state.specs.Inputs.{IsInputOf}
+use Rattle.monitor_state.specs.Firsts.{firsts}
 
 -- the type of an equation
 abbrev pub type_at : System → ℕ → Option ValueType

@@ -53,7 +53,7 @@ pub struct OpenEvents {
 
 impl Model for OpenEvents {
     ghost use Rattle.std.specs.Prelude.{List};
-    ghost use Rattle.monitor_run.specs.declared.state.OpenEvent as declared;
+    ghost use Rattle.monitor_state.specs.declared.state.OpenEvent as declared;
 
     ghost Value = { List declared.OpenEvent };
 
@@ -109,7 +109,7 @@ pub struct SavedRegisters {
 
 impl Model for SavedRegisters {
     ghost use Rattle.std.specs.Prelude.{List};
-    ghost use Rattle.monitor_run.specs.declared.state.SavedRegister as declared;
+    ghost use Rattle.monitor_state.specs.declared.state.SavedRegister as declared;
 
     ghost Value = { List declared.SavedRegister };
 

@@ -4,7 +4,7 @@ ghost use Rattle.std.specs.Prelude.{◌≡◌, ◌++◌, OnOk, OnErr};
 ghost use Rattle.std.specs.Option.{option_copied};
 ghost use Rattle.tsl_value.specs.Aggregate.{size_of};
 ghost use Rattle.tsl_value.specs.Print.{view_text};
-ghost use Rattle.body_eval.specs.inner.Cells.{Cells, FitsKey, IsLive, IsMap, IsQueue, front_of, has_key, value_at, view_at};
+ghost use Rattle.cell_reader.specs.inner.Cells.{Cells, FitsKey, IsLive, IsMap, IsQueue, front_of, has_key, value_at, view_at};
 
 use tsl_value::bytes::Bytes;
 use tsl_value::ids::Handle;

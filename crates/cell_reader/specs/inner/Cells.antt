@@ -1,16 +1,13 @@
--- Cells of aggregates, and registers that name them.
-use Rattle.std.specs.Prelude.{ℕ, Bool, false, IsTrue, List, ◌∷◌, map, Option, Some, None, slice_index_or, unwrap_or}
+-- Cells of aggregates.
+use Rattle.std.specs.Prelude.{ℕ, Bool, false, IsTrue, List, ◌∷◌, Option, Some, None, unwrap_or}
 use Rattle.std.specs.Ordering.{nat_cmp}
 use Rattle.std.specs.List.{list_all}
 use Rattle.std.specs.FinSet as set
 use Rattle.std.specs.FinMap as finite_map
-use Rattle.tsl_value.specs.Aggregate.{has_elements}
 use Rattle.tsl_value.specs.View.{View, Plain, Keyed, Mapped, Listed, is_of_key}
 use Rattle.tsl_value.specs.declared.scalar.KeyType.{KeyType}
 use Rattle.tsl_value.specs.declared.scalar.Scalar.{Scalar}
 use Rattle.tsl_value.specs.declared.scalar.Scalar.TheVariants as scalar
-use Rattle.body_eval.specs.declared.register.Register.{Register}
-use Rattle.body_eval.specs.declared.register.Register.TheVariants as register
 
 -- the views of the live cells, by their handles
 abbrev pub Cells : Type 0
@@ -54,29 +51,3 @@ value_at _ key = None
 abbrev pub front_of : View → Option Scalar
 front_of (Listed (x ∷ xs)) = Some x
 front_of _ = None
-
--- what a register holds
-abbrev pub held : Cells → Register → Option View
-held cells register.Empty = None
-held cells (register.Scalar s) = Some (Plain s)
-held cells (register.Aggregate handle) = Some (view_at cells handle)
-
--- what the registers hold that the arguments name
-abbrev pub arguments : Cells → List Register → List ℕ → List (Option View)
-arguments cells registers args = map (λ a. held cells (slice_index_or registers a register.Empty)) args
-
--- the cell of an aggregate is live, and has one
-abbrev pub HoldsLive : Cells → Register → Type 0
-HoldsLive cells (register.Aggregate handle) = IsLive cells handle × IsTrue (has_elements (view_at cells handle))
-HoldsLive cells _ = Unit {0}
-
--- the scalar of a register; an aggregate has none
-abbrev pub scalar_in : Register → Option Scalar
-scalar_in register.Empty = None
-scalar_in (register.Scalar s) = Some s
-scalar_in (register.Aggregate handle) = None
-
--- the register of a scalar that may be absent
-abbrev pub register_of : Option Scalar → Register
-register_of None = register.Empty
-register_of (Some s) = register.Scalar s

@@ -1,0 +1,3 @@
+pub mod Inputs
+pub mod Firsts
+pub mod Fits
