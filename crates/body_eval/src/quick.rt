@@ -13,8 +13,8 @@ ghost use Rattle.body_eval.specs.inner.Evaluable.{IsTypedAt};
 
 use crate::operation::{is_same, quotient, rest};
 use crate::read::int_of;
-use cell_reader::reader::Reader;
 use crate::register::Register;
+use cell_reader::reader::Reader;
 use lift_func::body::{Body, Node};
 use lift_func::faulting::is_arithmetic;
 use tsl_value::operation::{Binary, Unary};

@@ -14,8 +14,8 @@ ghost use Rattle.body_eval.specs.inner.Textless.{IsAnswered, IsNoText};
 
 use crate::eval::EvalFault;
 use crate::operation::apply_unary;
-use cell_reader::reader::Reader;
 use crate::register::Register;
+use cell_reader::reader::Reader;
 use lift_func::fault::FaultKind;
 use tsl_value::ids::Handle;
 use tsl_value::operation::{Binary, Unary};

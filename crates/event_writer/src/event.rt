@@ -7,8 +7,8 @@ ghost use Rattle.flat_core.specs.Text.{event_line};
 ghost use Rattle.event_writer.specs.Text.{IsPrintable};
 
 use crate::short::{append_short, is_short};
-use cell_reader::reader::Reader;
 use body_eval::register::Register;
+use cell_reader::reader::Reader;
 use itoa::write_digits;
 use tsl_value::bytes::Bytes;
 use tsl_value::memory::NoMemory;

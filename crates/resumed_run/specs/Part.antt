@@ -1,22 +1,13 @@
 -- What a part of a run makes.
 use Rattle.std.specs.Prelude.{◌≡◌, ◌++◌, ℕ, Bool, false, List, None, Some}
 use Rattle.register_code.specs.Code.{Code}
-use Rattle.run_state.specs.Fits.{FitsRun}
-use Rattle.run_state.specs.Spelling.{spelling}
-use Rattle.run_state.specs.declared.state.RunState.{RunState}
 use Rattle.trace_monitor.specs.declared.options.Options.{Options}
 use Rattle.trace_monitor.specs.Due.{IsDue}
 use Rattle.trace_monitor.specs.Next.{IsNext, is_nothing}
-use Rattle.trace_monitor.specs.Saved.{IsSavedAs}
+use Rattle.trace_monitor.specs.Saved.{IsSavedAs, SpellsState}
 use Rattle.resumed_run.specs.declared.part.After.{After}
 use Rattle.resumed_run.specs.declared.part.After.TheVariants as after
 use Rattle.resumed_run.specs.declared.part.Part.{Part}
-
--- the bytes spell a state that fits a code
-pub record SpellsState (c : Code) (bytes : List ℕ) : Type 0 where
-  pub state : RunState
-  pub fits : FitsRun c.system state
-  pub is : bytes ≡ spelling c state
 
 -- where the run goes on, it leaves the bytes of a state
 abbrev pub StaysIn : Code → After → Type 0

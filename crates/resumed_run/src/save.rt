@@ -4,40 +4,26 @@ ghost use Rattle.std.specs.Prelude.{◌≡◌, ◌≤◌, ◌<◌, ◌^◌, ℕ,
 ghost use Rattle.tsl_value.specs.declared.limits.TheConstants.{MOST_INSTANTS, MOST_TRACE_BYTES};
 ghost use Rattle.trace_reader.specs.declared.limits.TheConstants.{MOST_PIECE_BYTES};
 ghost use Rattle.run_state.specs.Fits.{FitsRun};
-ghost use Rattle.run_state.specs.Spelling.{IsOfOther, spelling};
+ghost use Rattle.run_state.specs.Spelling.{IsOfOther};
 ghost use Rattle.run_state.specs.declared.state.RunState.{RunState};
 ghost use Rattle.trace_monitor.specs.declared.options.Options.{Options};
-ghost use Rattle.trace_monitor.specs.Saved.{IsRunAfter, IsSavedAs};
+ghost use Rattle.trace_monitor.specs.Saved.{IsRunAfter, IsSavedAs, SpellsState};
 ghost use Rattle.trace_monitor.specs.inner.Kept.{Kept};
 ghost use Rattle.trace_monitor.specs.inner.Snapshot.{code_of};
 ghost use Rattle.trace_monitor.specs.inner.Waits.{Waits};
-ghost use Rattle.resumed_run.specs.Part.{IsPart, LeavesState, SpellsState};
+ghost use Rattle.resumed_run.specs.Part.{IsPart, LeavesState};
 
 use crate::part::{After, Part};
 use register_code::code::Code;
 use run_state::state::RunState;
 use state_snapshot::fault::StateFault;
 use state_snapshot::read::read_state;
-use state_snapshot::write::write_state;
 use std::alloc::Global;
 use trace_monitor::monitor::TraceMonitor;
 use trace_monitor::options::Options;
+use trace_monitor::save::saved;
 use tsl_value::bytes::Bytes;
 use tsl_value::memory::NoMemory;
-
-/// The bytes of what a monitor keeps, which runs this code.
-pub fn saved(alloc: Global, code: &Code, monitor: &TraceMonitor<'_>) -> Result<Bytes, NoMemory>
-    requires waits { Waits monitor.now }
-    requires few { monitor.now.options.instants ≤ MOST_INSTANTS }
-    requires code { code_of monitor.now ≡ code.now }
-    ensures fits { IfOk result (SpellsState code.now) }
-    ensures saved { IfOk result (λ bytes. (fed : List ℕ) → Kept monitor.now fed → IsSavedAs code.now monitor.now.options fed bytes) }
-{
-    let state = monitor.state(alloc)?;
-    let mut bytes = Bytes::new(alloc);
-    write_state(&state, code, &mut bytes)?;
-    Ok(bytes)
-}
 
 /// What a monitor makes of a piece, or of the end, which is an empty piece.
 fn part_of(

@@ -13,7 +13,7 @@ use Rattle.code_check.specs.Read.{IsReadFault}
 use Rattle.code_file.specs.declared.fault.CodeFault.TheVariants as code
 use Rattle.compiled_meaning.specs.Compiled.{IsRefusedBy}
 use Rattle.register_code.specs.Code.{Code}
-use Rattle.resumed_run.specs.Part.{SpellsState}
+use Rattle.trace_monitor.specs.Saved.{SpellsState}
 use Rattle.run_state.specs.Spelling.{IsOfOther}
 use Rattle.slice_text.specs.Text.{HasOutput}
 use Rattle.state_snapshot.specs.declared.fault.StateFault.{StateFault}

@@ -2,7 +2,7 @@
 use Rattle.std.specs.Prelude.{◌≡◌, ℕ, ⊤, true, List, Option, Some}
 use Rattle.command_words.specs.declared.command.Run.{Run}
 use Rattle.register_code.specs.Code.{Code}
-use Rattle.resumed_run.specs.Part.{SpellsState}
+use Rattle.trace_monitor.specs.Saved.{SpellsState}
 use Rattle.trace_run.specs.Before.{Before}
 use Rattle.trace_run.specs.Means.{WatchEndsAs, all_of}
 use Rattle.trace_run.specs.Program.{IsCodeOf, Program}

@@ -8,10 +8,9 @@ use Rattle.command_words.specs.declared.command.Run.{Run}
 use Rattle.compiled_meaning.specs.Compiled.{Compiles}
 use Rattle.flat_core.specs.System.{System}
 use Rattle.register_code.specs.Code.{Code}
-use Rattle.resumed_run.specs.Part.{SpellsState}
 use Rattle.syntax_tree.specs.Tree as tree
 use Rattle.trace_monitor.specs.declared.options.Options.{Options}
-use Rattle.trace_monitor.specs.Saved.{IsSavedAs}
+use Rattle.trace_monitor.specs.Saved.{IsSavedAs, SpellsState}
 use Rattle.trace_run.specs.Before.{Before, nothing_before}
 use Rattle.trace_run.specs.Means.{IsDueAs}
 use Rattle.trace_run.specs.Program.{IsCodeOf, Program, coded, specified}

@@ -13,3 +13,4 @@ pub mod Advancing
 pub mod Waiting
 pub mod Resuming
 pub mod Within
+pub mod Saving

@@ -38,3 +38,9 @@ pub record IsSavedAs (c : Code) (o : Options) (earlier bytes : List ℕ) : Type 
   pub after : IsRunAfter c o earlier state
   pub fits : FitsRun c.system state
   pub is : bytes ≡ spelling c state
+
+-- the bytes spell a state that fits a code
+pub record SpellsState (c : Code) (bytes : List ℕ) : Type 0 where
+  pub state : RunState
+  pub fits : FitsRun c.system state
+  pub is : bytes ≡ spelling c state

@@ -6,3 +6,4 @@ pub mod ending;
 pub mod halt;
 pub mod monitor;
 pub mod options;
+pub mod save;

@@ -2,7 +2,7 @@
 use Rattle.std.proofs.Common.{◌≡◌, ℕ, false, List, sym, subst}
 use Rattle.flat_core.specs.System.{System}
 use Rattle.register_code.specs.Code.{Code, IsCode}
-use Rattle.resumed_run.proofs.Parts.{saved_after}
+use Rattle.trace_monitor.proofs.Saving.{saved_after}
 use Rattle.run_state.specs.Fits.{FitsRun}
 use Rattle.run_state.specs.Spelling.{spelling}
 use Rattle.run_state.specs.declared.state.RunState.{RunState}

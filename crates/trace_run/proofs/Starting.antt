@@ -4,7 +4,7 @@ use Rattle.compiled_meaning.specs.inner.Ready.{IsReady}
 use Rattle.flat_core.specs.System.{System}
 use Rattle.monitor_run.specs.inner.State as engine
 use Rattle.register_code.specs.Code.{Code}
-use Rattle.resumed_run.proofs.Parts.{code_is, few_instants, options_are}
+use Rattle.trace_monitor.proofs.Saving.{code_is, few_instants, options_are}
 use Rattle.run_state.specs.Fits.{FitsRun}
 use Rattle.run_state.specs.declared.state.RunState.{RunState}
 use Rattle.trace_monitor.specs.declared.ending.RunEnding.{RunEnding}

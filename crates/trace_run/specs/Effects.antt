@@ -4,7 +4,6 @@ use Rattle.std.specs.Prelude.{Option, Some, None, Result, OnOk, OnErr}
 use Rattle.flat_core.specs.System.{System}
 use Rattle.monitor_run.specs.inner.State as engine
 use Rattle.register_code.specs.Code.{Code}
-use Rattle.resumed_run.specs.Part.{SpellsState}
 use Rattle.trace_monitor.specs.Counted.{HasCounted}
 use Rattle.trace_monitor.specs.declared.ending.RunEnding.{RunEnding}
 use Rattle.trace_monitor.specs.declared.ending.RunEnding.TheVariants as run
@@ -12,7 +11,7 @@ use Rattle.trace_monitor.specs.declared.options.Options.{Options}
 use Rattle.trace_monitor.specs.Due.{IsDue}
 use Rattle.trace_monitor.specs.Ending.{GoesOn}
 use Rattle.trace_monitor.specs.Next.{EndsBy}
-use Rattle.trace_monitor.specs.Saved.{IsSavedAs}
+use Rattle.trace_monitor.specs.Saved.{IsSavedAs, SpellsState}
 use Rattle.trace_monitor.specs.inner.Kept.{Kept}
 use Rattle.trace_monitor.specs.inner.Snapshot.{code_of}
 use Rattle.trace_monitor.specs.inner.State.{State}

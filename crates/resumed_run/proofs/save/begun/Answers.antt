@@ -2,7 +2,7 @@ use Rattle.std.proofs.Common.{[], subst}
 use Rattle.trace_monitor.specs.declared.options.Options.{Options}
 use Rattle.trace_monitor.specs.Saved.{IsSavedAs}
 use Rattle.trace_monitor.proofs.Taking.{if_ok}
-use Rattle.resumed_run.proofs.Parts.{code_is}
+use Rattle.trace_monitor.proofs.Saving.{code_is}
 use Rattle.resumed_run.proofs.save.begun.Goals as goal
 
 pub saved-requires-clause-waits : goal.saved-requires-clause-waits

@@ -1,5 +1,6 @@
 use Rattle.trace_monitor.proofs.Taking.{if_ok}
-use Rattle.resumed_run.proofs.Parts.{code_is, few_instants, part_after}
+use Rattle.trace_monitor.proofs.Saving.{code_is, few_instants}
+use Rattle.resumed_run.proofs.Parts.{part_after}
 use Rattle.resumed_run.proofs.save.gone_on.Goals as goal
 
 pub part_of-requires-clause-few : goal.part_of-requires-clause-few

@@ -1,4 +1,4 @@
-use Rattle.resumed_run.proofs.Parts.{saved_after}
+use Rattle.trace_monitor.proofs.Saving.{saved_after}
 use Rattle.resumed_run.proofs.save.resumed.Goals as goal
 
 pub returns-clause-part : goal.returns-clause-part

@@ -2,7 +2,7 @@ use Rattle.std.proofs.Common.{not, ◌∙◌, ap, sym, subst, arith}
 use Rattle.flat_core.specs.System.{System}
 use Rattle.compiled_meaning.specs.inner.Ready.{IsReady}
 use Rattle.register_code.specs.Code.{Code}
-use Rattle.resumed_run.proofs.Parts.{code_is}
+use Rattle.trace_monitor.proofs.Saving.{code_is}
 use Rattle.trace_monitor.specs.declared.options.Options.{Options}
 use Rattle.tsl_world.specs.declared.outside.Did.TheVariants.{Opened, NotOpened}
 use Rattle.tsl_world.specs.declared.outside.Slot.TheVariants.{Trace}

@@ -1,7 +1,7 @@
 use Rattle.std.proofs.Common.{◌++◌, List, ℕ, ap, ◌∙◌}
 use Rattle.run_state.specs.Spelling.{spelling}
-use Rattle.resumed_run.proofs.Parts.{saved_as, spelled}
-use Rattle.resumed_run.proofs.save.saved.Goals as goal
+use Rattle.trace_monitor.proofs.Saving.{saved_as, spelled}
+use Rattle.trace_monitor.proofs.save.saved.Goals as goal
 
 pub returns-clause-fits : goal.returns-clause-fits
 returns-clause-fits c =
