@@ -1,13 +1,11 @@
 -- The finite maps and sets that ordered collections hold.
 use Rattle.std.proofs.Common.{◌≡◌, ◌+◌, Bool, true, false, ◌||◌, ◌&&◌, not, cond, List, [], ◌∷◌, Some, None, map, length, refl, sym, ap, subst, ◌∙◌, arith}
 use Rattle.std.specs.BTreeMap as tree
-use Rattle.std.specs.BTreeSet as sorted
 use Rattle.std.specs.BTreeMap.{BTreeMap}
-use Rattle.std.specs.BTreeSet.{BTreeSet}
 use Rattle.std.specs.FinMap as finite_map
 use Rattle.std.specs.FinMap.{FinMap, IsAntisymmetric}
 use Rattle.std.specs.FinSet as set
-use Rattle.std.specs.Cmp.{IsTotalOrder, eq_by_cmp_equiv}
+use Rattle.std.specs.Cmp.{Equal-is, IsTotalOrder, eq_by_cmp_equiv}
 use Rattle.std.specs.Map.{keys_of}
 use Rattle.std.specs.List.{list_any, AllByRecursion}
 use Rattle.std.specs.List.Sorted.{IsStrictlySortedBy}
@@ -31,6 +29,15 @@ true_or false x = refl
 not_and : (b x : Bool) → cond b false x ≡ (not b && x)
 not_and true x = refl
 not_and false x = refl
+
+moved : (a b c : Bool) → ((a || b) || c) ≡ (b || (a || c))
+moved true true c = refl
+moved true false c = refl
+moved false b c = refl
+
+or-false : (a : Bool) → (a || false) ≡ a
+or-false true = refl
+or-false false = refl
 
 -- ---- a map's entries, and a set's keys
 
@@ -101,15 +108,60 @@ module _ {K : Type 0} {R : K → K → Ordering} (o : IsTotalOrder R) where
     table-remove updates = is_remove o same _ _ k (λ q.
         get-of_entries o n.entries q ∙ updates.0 q ∙ ap (cond (eq_by_cmp R k q) None) (sym (get-of_entries o m.entries q)))
 
-  module _ (same : IsAntisymmetric R) (s n : BTreeSet K) (k : K) where
-    pub set-insert : sorted.Updates R s n k true → set.from_list {R = R} n.keys ≡ set.insert (set.from_list s.keys) k
-    set-insert updates = set.same_set o same _ _ (λ q.
-        set.contains-from_list o n.keys q ∙ updates.0 q ∙ true_or (eq_by_cmp R k q) _
-        ∙ ap (λ b. b || list_any (eq_by_cmp R q) s.keys) ((eq_by_cmp_equiv o).symm k q)
-        ∙ sym (set.contains-insert o (set.from_list s.keys) k q ∙ ap (λ b. eq_by_cmp R q k || b) (set.contains-from_list o s.keys q)))
+  module _ (same : IsAntisymmetric R) (old new : List K) (k : K) where
+    pub set-insert : ((q : K) → list_any (eq_by_cmp R q) new ≡ cond (eq_by_cmp R k q) true (list_any (eq_by_cmp R q) old)) → set.from_list {R = R} new ≡ set.insert (set.from_list old) k
+    set-insert is = set.same_set o same _ _ (λ q.
+        set.contains-from_list o new q ∙ is q ∙ true_or (eq_by_cmp R k q) _
+        ∙ ap (λ b. b || list_any (eq_by_cmp R q) old) ((eq_by_cmp_equiv o).symm k q)
+        ∙ sym (set.contains-insert o (set.from_list old) k q ∙ ap (λ b. eq_by_cmp R q k || b) (set.contains-from_list o old q)))
 
-    pub set-remove : sorted.Updates R s n k false → set.from_list {R = R} n.keys ≡ set.remove (set.from_list s.keys) k
-    set-remove updates = set.same_set o same _ _ (λ q.
-        set.contains-from_list o n.keys q ∙ updates.0 q ∙ not_and (eq_by_cmp R k q) _
-        ∙ ap (λ b. not b && list_any (eq_by_cmp R q) s.keys) ((eq_by_cmp_equiv o).symm k q)
-        ∙ sym (set.contains-remove o (set.from_list s.keys) k q ∙ ap (λ b. not (eq_by_cmp R q k) && b) (set.contains-from_list o s.keys q)))
+    pub set-remove : ((q : K) → list_any (eq_by_cmp R q) new ≡ cond (eq_by_cmp R k q) false (list_any (eq_by_cmp R q) old)) → set.from_list {R = R} new ≡ set.remove (set.from_list old) k
+    set-remove is = set.same_set o same _ _ (λ q.
+        set.contains-from_list o new q ∙ is q ∙ not_and (eq_by_cmp R k q) _
+        ∙ ap (λ b. not b && list_any (eq_by_cmp R q) old) ((eq_by_cmp_equiv o).symm k q)
+        ∙ sym (set.contains-remove o (set.from_list old) k q ∙ ap (λ b. not (eq_by_cmp R q k) && b) (set.contains-from_list o old q)))
+
+  module _ (same : IsAntisymmetric R) (s : set.FinSet R) (k : K) where
+    -- a key that is there, added again
+    pub insert-present : set.contains s k ≡ true → set.insert s k ≡ s
+    insert-present there = set.same_set o same (set.insert s k) s (λ q.
+        set.contains-insert o s k q
+        ∙ elim (eq_by_cmp R q k) as (λ b. eq_by_cmp R q k ≡ b → (b || set.contains s q) ≡ set.contains s q) [
+          | true ↦ λ tied. sym there ∙ ap (set.contains s) (sym (same q k ((Equal-is (R q k)).0 tied)))
+          | false ↦ λ _. refl
+        ] refl)
+
+    -- a key that is not there, taken out
+    pub remove-absent : set.contains s k ≡ false → set.remove s k ≡ s
+    remove-absent absent = set.same_set o same (set.remove s k) s (λ q.
+        set.contains-remove o s k q
+        ∙ elim (eq_by_cmp R q k) as (λ b. eq_by_cmp R q k ≡ b → (not b && set.contains s q) ≡ set.contains s q) [
+          | true ↦ λ tied. sym absent ∙ ap (set.contains s) (sym (same q k ((Equal-is (R q k)).0 tied)))
+          | false ↦ λ _. refl
+        ] refl)
+
+  -- ---- a set to which the keys of a list are added, one after the other
+
+  -- what a set has and what is left to be added make all
+  abbrev pub Lacks : set.FinSet R → List K → List K → Type 0
+  Lacks s left all = (q : K) → (set.contains s q || list_any (eq_by_cmp R q) left) ≡ list_any (eq_by_cmp R q) all
+
+  pub lacks_all : (s : set.FinSet R) (left all : List K) → s ≡ set.empty → left ≡ all → Lacks s left all
+  lacks_all s left all none same q =
+      ap (λ t. set.contains t q || list_any (eq_by_cmp R q) left) none
+      ∙ ap (λ b. b || list_any (eq_by_cmp R q) left) (set.contains-empty R q)
+      ∙ ap (list_any (eq_by_cmp R q)) same
+
+  pub lacks_less : (s t : set.FinSet R) (k : K) (left all : List K) → t ≡ set.insert s k → Lacks s (k ∷ left) all → Lacks t left all
+  lacks_less s t k left all is lacks q =
+      ap (λ u. set.contains u q || list_any (eq_by_cmp R q) left) is
+      ∙ ap (λ b. b || list_any (eq_by_cmp R q) left) (set.contains-insert o s k q)
+      ∙ moved (eq_by_cmp R q k) (set.contains s q) (list_any (eq_by_cmp R q) left)
+      ∙ lacks q
+
+  pub lacks_none : IsAntisymmetric R → (s : set.FinSet R) (left all : List K) → left ≡ [] → Lacks s left all → s ≡ set.from_list all
+  lacks_none same s left all none lacks = set.same_set o same s (set.from_list all) (λ q.
+      sym (or-false (set.contains s q))
+      ∙ sym (ap (λ ks. set.contains s q || list_any (eq_by_cmp R q) ks) none)
+      ∙ lacks q
+      ∙ sym (set.contains-from_list o all q))

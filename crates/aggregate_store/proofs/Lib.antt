@@ -1,5 +1,6 @@
 mod Examples
 pub mod FiniteMaps
+pub mod Numbers
 pub mod Contents
 pub mod Gathered
 pub mod Recent

@@ -1,5 +1,9 @@
 -- Ordered collections that are equal have equal views, and the other way round.
-use Rattle.std.proofs.Common.{◌≡◌, ◌&&◌, Bool, true, List, map, sym, subst, ap, ◌∙◌}
+use Rattle.std.proofs.Common.{◌≡◌, ◌&&◌, not, ℤ, Bool, true, false, List, [], ◌∷◌, Option, Some, None, Bor, map, refl, sym, subst, ap, ◌∙◌}
+use Rattle.std.proofs.lemmas.Bool.{false≢true, true≢false}
+use Rattle.std.specs.Prelude.{◌↔◌, is_some}
+use Rattle.std.specs.Map.Iter.{TakesFirst, deref}
+use Rattle.std.specs.Option.{option_copied}
 use Rattle.std.proofs.lemmas.Map.Lookups.{btree_map_eq-Decides}
 use Rattle.std.proofs.lemmas.Slice.Eq.{slice_eq-Decides}
 use Rattle.std.specs.Bool.{Decides}
@@ -14,6 +18,7 @@ use Rattle.std.specs.Map.{keys_of}
 use Rattle.std.specs.Ordering.{eq_by_cmp}
 use Rattle.tsl_value.specs.View.{scalar_cmp}
 use Rattle.tsl_value.specs.declared.scalar.Scalar.{Scalar}
+use Rattle.tsl_value.specs.declared.scalar.Scalar.TheVariants as scalar
 use Rattle.tsl_value.specs.inner.ScalarOrder.{scalar_cmp_total}
 use Rattle.tsl_value.proofs.ScalarOrder.{scalar_cmp-IsAntisymmetric}
 use Rattle.aggregate_store.specs.inner.CellView.{table_of}
@@ -32,15 +37,51 @@ same_scalar a b = (
 pub queues_same : (xs ys : List Scalar) (r : Bool) → r ≡ pointwise is_same xs ys → Decides r (xs ≡ ys)
 queues_same xs ys r is = slice_eq-Decides same_scalar xs ys r is
 
-pub sets_same : (s t : BTreeSet Scalar) (r : Bool) → r ≡ pointwise is_same s.keys t.keys → IsStrictlySortedBy scalar_cmp s.keys → IsStrictlySortedBy scalar_cmp t.keys → Decides r (set_of s ≡ set_of t)
-sets_same s t r is first second =
-    let keys = queues_same s.keys t.keys r is in (
-      λ yes. ap set.from_list (keys.0 yes),
-      λ same. keys.1
-          (sym (keys-of_keys scalar_cmp_total scalar_cmp-IsAntisymmetric s.keys first)
-          ∙ ap (λ u. finite_map.keys (finite_map.from_entries {R = scalar_cmp} (map (λ k. (k, tt)) (set.items u)))) same
-          ∙ keys-of_keys scalar_cmp_total scalar_cmp-IsAntisymmetric t.keys second),
-    )
+-- rising lists of the same keys are the same
+pub same_keys : (xs ys : List Scalar) → IsStrictlySortedBy scalar_cmp xs → IsStrictlySortedBy scalar_cmp ys → set.from_list {R = scalar_cmp} xs ≡ set.from_list ys → xs ≡ ys
+same_keys xs ys first second same =
+    sym (keys-of_keys scalar_cmp_total scalar_cmp-IsAntisymmetric xs first)
+    ∙ ap (λ u. finite_map.keys (finite_map.from_entries {R = scalar_cmp} (map (λ k. (k, tt)) (set.items u)))) same
+    ∙ keys-of_keys scalar_cmp_total scalar_cmp-IsAntisymmetric ys second
+
+pub sets_same : (xs ys : List Scalar) (r : Bool) → Decides r (xs ≡ ys) → IsStrictlySortedBy scalar_cmp xs → IsStrictlySortedBy scalar_cmp ys → Decides r (set.from_list {R = scalar_cmp} xs ≡ set.from_list ys)
+sets_same xs ys r lists first second = (λ yes. ap set.from_list (lists.0 yes), λ same. lists.1 (same_keys xs ys first second same))
+
+-- ---- numbers and scalars, one after the other
+
+-- whether all agree is whether those that are left do
+abbrev pub AgreeAs : List ℤ → List Scalar → List ℤ → List Scalar → Type 0
+AgreeAs numbers scalars ns ks = (map scalar.Int numbers ≡ scalars) ↔ (map scalar.Int ns ≡ ks)
+
+abbrev pub head_of : List Scalar → Option Scalar
+head_of [] = None
+head_of (k ∷ ks) = Some k
+
+-- what an iterator gives is the first of what was left
+module _ (s t : List Scalar) where
+  pub head_left : (r : Option (Bor Scalar)) → TakesFirst deref s r t → option_copied r ≡ head_of s
+  head_left None left = sym (ap head_of left.0)
+  head_left (Some x) left = sym (ap head_of left)
+
+  pub some_left : (r : Option (Bor Scalar)) → TakesFirst deref s r t → is_some (head_of s) ≡ is_some r
+  some_left None left = ap (λ xs. is_some (head_of xs)) left.0
+  some_left (Some x) left = ap (λ xs. is_some (head_of xs)) left
+
+module _ (numbers : List ℤ) (scalars : List Scalar) where
+  pub agree_not : (n : ℤ) (before ns : List ℤ) (left : List Scalar) → before ≡ n ∷ ns → ¬ (head_of left ≡ Some (scalar.Int n)) → AgreeAs numbers scalars before left → Decides false (map scalar.Int numbers ≡ scalars)
+  agree_not n before ns left numbers_are other agree = (
+    λ yes. absurd (false≢true yes),
+    λ same. absurd (other (ap head_of (sym (agree.0 same) ∙ ap (map scalar.Int) numbers_are))),
+  )
+
+  pub agree_all : (before : List ℤ) (left : List Scalar) (r : Bool) → before ≡ [] → is_some (head_of left) ≡ not r → AgreeAs numbers scalars before left → Decides r (map scalar.Int numbers ≡ scalars)
+  agree_all before [] true none ended agree = (λ yes. agree.1 (ap (map scalar.Int) none), λ same. refl)
+  agree_all before [] false none ended agree = absurd (false≢true ended)
+  agree_all before (k ∷ ks) true none ended agree = absurd (true≢false ended)
+  agree_all before (k ∷ ks) false none ended agree = (
+    λ yes. absurd (false≢true yes),
+    λ same. absurd (false≢true (ap (λ xs. is_some (head_of xs)) (sym (ap (map scalar.Int) none) ∙ agree.0 same))),
+  )
 
 pub maps_same : (m n : BTreeMap Scalar Scalar) (r : Bool) → r ≡ pointwise (λ (p q : Scalar × Scalar). is_same p.0 q.0 && is_same p.1 q.1) m.entries n.entries → IsStrictlySortedBy scalar_cmp (keys_of m.entries) → IsStrictlySortedBy scalar_cmp (keys_of n.entries) → Decides r (table_of m ≡ table_of n)
 maps_same m n r is first second =

@@ -9,9 +9,10 @@ ghost use Rattle.aggregate_store.specs.Content.{AllIn, AreInOrder, IsInRange, co
 ghost use Rattle.tsl_value.specs.Print.{in_order};
 ghost use Rattle.tsl_value.specs.View.{scalar_cmp};
 ghost use Rattle.aggregate_store.specs.inner.CellView.{table_of, view_of};
-ghost use Rattle.aggregate_store.specs.inner.Keys.{set_of};
+ghost use Rattle.aggregate_store.specs.inner.Keys.{set_of, set_of_numbers, set_of_scalars};
 
 use crate::cell::Cell;
+use crate::key_tree::{KeyTree, key_of};
 use crate::keys::KeySet;
 use crate::lists::{Pairs, Scalars};
 use crate::range::assert_in_range;
@@ -29,9 +30,24 @@ pub enum Content {
     Queue(Scalars),
 }
 
-/// The keys of a set in their order.
-fn keys_of(alloc: Global, keys: &BTreeSet<Scalar>) -> Result<Scalars, NoMemory>
-    ensures keys { IfOk result (λ list. list ≡ in_order (set_of keys.now)) }
+/// Numbers in their order.
+fn numbers_of(alloc: Global, numbers: &BTreeSet<i64>) -> Result<Scalars, NoMemory>
+    ensures keys { IfOk result (λ list. list ≡ in_order (set_of_numbers numbers.now)) }
+    ensures range { IfOk result (AllByRecursion IsInRange) }
+{
+    let mut list = Scalars::new(alloc);
+    let rest = numbers.iter();
+    for number in rest {
+        let key = key_of(number);
+        assert_in_range(&key);
+        list.push(key)?;
+    }
+    Ok(list)
+}
+
+/// Scalars in their order.
+fn scalars_of(alloc: Global, keys: &BTreeSet<Scalar>) -> Result<Scalars, NoMemory>
+    ensures keys { IfOk result (λ list. list ≡ in_order (set_of_scalars keys.now)) }
     ensures range { IfOk result (AllByRecursion IsInRange) }
 {
     let mut list = Scalars::new(alloc);
@@ -41,6 +57,17 @@ fn keys_of(alloc: Global, keys: &BTreeSet<Scalar>) -> Result<Scalars, NoMemory>
         list.push(key.copy()?)?;
     }
     Ok(list)
+}
+
+/// The keys of a set in their order.
+fn keys_of(alloc: Global, keys: &KeyTree) -> Result<Scalars, NoMemory>
+    ensures keys { IfOk result (λ list. list ≡ in_order (set_of keys.now)) }
+    ensures range { IfOk result (AllByRecursion IsInRange) }
+{
+    match keys {
+        KeyTree::Numbers(numbers) => numbers_of(alloc, numbers),
+        KeyTree::Scalars(scalars) => scalars_of(alloc, scalars),
+    }
 }
 
 /// The entries of a map in the order of their keys.

@@ -6,8 +6,8 @@ ghost use Rattle.std.specs.List.{AllPass, Contains};
 ghost use Rattle.tsl_value.specs.declared.scalar.Scalar.TheVariants as scalar;
 ghost use Rattle.aggregate_store.specs.inner.Keys.{set_of};
 
+use crate::key_tree::KeyTree;
 use std::alloc::Global;
-use std::collections::BTreeSet;
 use std::marker::Model;
 use tsl_value::memory::NoMemory;
 use tsl_value::scalar::Scalar;
@@ -22,7 +22,7 @@ const MOST: usize = 2048;
 /// search.
 #[derive(Drop)]
 pub struct KeySet {
-    keys: BTreeSet<Scalar>,
+    keys: KeyTree,
     // Each of them is a key. A number is looked for at one place alone.
     recent: Vec<i64>,
     // Whether numbers are put into the table: not once a key was taken out.
@@ -94,7 +94,7 @@ impl KeySet {
         ensures { result ≡ set.empty }
     {
         KeySet {
-            keys: BTreeSet::new(alloc),
+            keys: KeyTree::new(alloc),
             recent: Vec::new(alloc),
             is_noting: true,
         }
@@ -108,7 +108,7 @@ impl KeySet {
     }
 
     /// The keys in their order.
-    pub(crate) fn sorted(&self) -> &BTreeSet<Scalar>
+    pub(crate) fn sorted(&self) -> &KeyTree
         ensures { set_of result.now ≡ self.now }
     {
         &self.keys
@@ -147,7 +147,7 @@ impl KeySet {
         ensures { IfOk result (λ s. s ≡ self.now) }
     {
         let recent = Vec::new(*self.recent.allocator());
-        let keys = self.keys.clone()?;
+        let keys = self.keys.copy()?;
         Ok(KeySet {
             keys,
             recent,
@@ -184,7 +184,8 @@ impl KeySet {
         ensures ok { OnOk result (self.new ≡ set.insert self.old key.now) }
         ensures err { OnErr result (self.new ≡ self.old) }
     {
-        self.keys.insert(key.copy()?)?;
+        let alloc = *self.recent.allocator();
+        self.keys.insert(alloc, key.copy()?)?;
         Ok(())
     }
 
@@ -194,7 +195,7 @@ impl KeySet {
         ensures ok { OnOk result (self.new ≡ set.insert self.old (scalar.Int number)) }
         ensures err { OnErr result (self.new ≡ self.old) }
     {
-        self.keys.insert(Scalar::Int(number))?;
+        self.keys.insert_number(number)?;
         if self.is_noting {
             note(number, self.keys.len(), &mut self.recent);
         }

@@ -2,11 +2,13 @@
 
 ghost use Rattle.std.specs.Prelude.{◌≡◌, ◌++◌, codes, length, map, take, OnOk, OnErr};
 ghost use Rattle.std.specs.FinMap as finite_map;
+ghost use Rattle.tsl_value.specs.declared.scalar.Scalar.TheVariants as scalar;
 ghost use Rattle.tsl_value.specs.Print.{in_order, listed, scalar_text, view_text};
 ghost use Rattle.aggregate_store.specs.inner.CellView.{table_of, view_of};
-ghost use Rattle.aggregate_store.specs.inner.Keys.{set_of};
+ghost use Rattle.aggregate_store.specs.inner.Keys.{set_of, set_of_numbers, set_of_scalars};
 
 use crate::cell::Cell;
+use crate::key_tree::{KeyTree, key_of};
 use std::collections::{BTreeMap, BTreeSet, VecDeque};
 use tsl_value::bytes::Bytes;
 use tsl_value::memory::NoMemory;
@@ -50,8 +52,44 @@ fn append_cell(cell: &Cell, out: &mut Bytes) -> Result<(), NoMemory>
 }
 
 /// Appends the keys in order, with a comma and a blank between them.
-fn append_keys(keys: &BTreeSet<Scalar>, out: &mut Bytes) -> Result<(), NoMemory>
+fn append_keys(keys: &KeyTree, out: &mut Bytes) -> Result<(), NoMemory>
     ensures ok { OnOk result (out.new ≡ out.old ++ listed (map scalar_text (in_order (set_of keys.now)))) }
+    ensures err { OnErr result (take (length out.old) out.new ≡ out.old) }
+{
+    match keys {
+        KeyTree::Numbers(numbers) => append_numbers(numbers, out),
+        KeyTree::Scalars(scalars) => append_scalars(scalars, out),
+    }
+}
+
+fn append_number(number: &i64, out: &mut Bytes) -> Result<(), NoMemory>
+    ensures ok { OnOk result (out.new ≡ out.old ++ scalar_text (scalar.Int number.now)) }
+    ensures err { OnErr result (out.new ≡ out.old) }
+{
+    let key = key_of(number);
+    print_scalar(&key, out)
+}
+
+/// Appends the numbers in order, with a comma and a blank between them.
+fn append_numbers(numbers: &BTreeSet<i64>, out: &mut Bytes) -> Result<(), NoMemory>
+    ensures ok { OnOk result (out.new ≡ out.old ++ listed (map scalar_text (in_order (set_of_numbers numbers.now)))) }
+    ensures err { OnErr result (take (length out.old) out.new ≡ out.old) }
+{
+    let mut rest = numbers.iter();
+    let Some(first) = rest.next() else {
+        return Ok(());
+    };
+    append_number(first, out)?;
+    for number in rest {
+        out.append(b", ")?;
+        append_number(number, out)?;
+    }
+    Ok(())
+}
+
+/// Appends the scalars in order, with a comma and a blank between them.
+fn append_scalars(keys: &BTreeSet<Scalar>, out: &mut Bytes) -> Result<(), NoMemory>
+    ensures ok { OnOk result (out.new ≡ out.old ++ listed (map scalar_text (in_order (set_of_scalars keys.now)))) }
     ensures err { OnErr result (take (length out.old) out.new ≡ out.old) }
 {
     let mut rest = keys.iter();

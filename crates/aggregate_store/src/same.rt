@@ -1,21 +1,70 @@
 // Whether two cells have the same view.
 
-ghost use Rattle.std.specs.Prelude.{◌≡◌, ◌↔◌, IsTrue};
+ghost use Rattle.std.specs.Prelude.{◌≡◌, ◌↔◌, IsTrue, Some};
+ghost use Rattle.std.specs.Option.{option_copied};
+ghost use Rattle.tsl_value.specs.declared.scalar.Scalar.TheVariants as scalar;
 ghost use Rattle.aggregate_store.specs.inner.CellView.{table_of, view_of};
-ghost use Rattle.aggregate_store.specs.inner.Keys.{set_of};
+ghost use Rattle.aggregate_store.specs.inner.Keys.{set_of, set_of_numbers, set_of_scalars};
 
 use crate::cell::Cell;
+use crate::key_tree::KeyTree;
 use std::collections::{BTreeMap, BTreeSet, VecDeque};
 use tsl_value::scalar::Scalar;
 
-/// Whether two sets have the same keys.
-fn is_same_set(a: &BTreeSet<Scalar>, b: &BTreeSet<Scalar>) -> bool
-    ensures { IsTrue result ↔ set_of a.now ≡ set_of b.now }
+/// Whether two trees of numbers have the same.
+fn is_same_numbers(a: &BTreeSet<i64>, b: &BTreeSet<i64>) -> bool
+    ensures { IsTrue result ↔ set_of_numbers a.now ≡ set_of_numbers b.now }
+{
+    // That the numbers are in order is known where they are gone through.
+    let _ = a.iter();
+    let _ = b.iter();
+    a == b
+}
+
+/// Whether two trees of scalars have the same.
+fn is_same_scalars(a: &BTreeSet<Scalar>, b: &BTreeSet<Scalar>) -> bool
+    ensures { IsTrue result ↔ set_of_scalars a.now ≡ set_of_scalars b.now }
 {
     // That the keys are in order is known where they are gone through.
     let _ = a.iter();
     let _ = b.iter();
     a == b
+}
+
+/// Whether the key is this number.
+fn is_number(key: Option<&Scalar>, number: &i64) -> bool
+    ensures { IsTrue result ↔ option_copied key.entry ≡ Some (scalar.Int number.now) }
+{
+    match key {
+        Some(Scalar::Int(n)) => *n == *number,
+        _ => false,
+    }
+}
+
+/// Whether the scalars are the numbers.
+fn is_same_mixed(numbers: &BTreeSet<i64>, scalars: &BTreeSet<Scalar>) -> bool
+    ensures { IsTrue result ↔ set_of_numbers numbers.now ≡ set_of_scalars scalars.now }
+{
+    let mut left = scalars.iter();
+    let rest = numbers.iter();
+    for number in rest {
+        if !is_number(left.next(), number) {
+            return false;
+        }
+    }
+    left.next().is_none()
+}
+
+/// Whether two sets have the same keys. A set of numbers alone may be a tree of scalars, after others were taken out.
+fn is_same_set(a: &KeyTree, b: &KeyTree) -> bool
+    ensures { IsTrue result ↔ set_of a.now ≡ set_of b.now }
+{
+    match (a, b) {
+        (KeyTree::Numbers(a), KeyTree::Numbers(b)) => is_same_numbers(a, b),
+        (KeyTree::Scalars(a), KeyTree::Scalars(b)) => is_same_scalars(a, b),
+        (KeyTree::Numbers(a), KeyTree::Scalars(b)) => is_same_mixed(a, b),
+        (KeyTree::Scalars(a), KeyTree::Numbers(b)) => is_same_mixed(b, a),
+    }
 }
 
 /// Whether two maps have the same keys with the same values.

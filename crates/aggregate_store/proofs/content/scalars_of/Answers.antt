@@ -3,7 +3,7 @@ use Rattle.tsl_value.specs.inner.ScalarOrder.{scalar_cmp_total}
 use Rattle.aggregate_store.proofs.FiniteMaps.{keys-of_keys}
 use Rattle.tsl_value.proofs.ScalarOrder.{scalar_cmp-IsAntisymmetric}
 use Rattle.aggregate_store.proofs.Gathered.{all_gathered}
-use Rattle.aggregate_store.proofs.content.keys_of.Goals as goal
+use Rattle.aggregate_store.proofs.content.scalars_of.Goals as goal
 
 pub returns-clause-keys : goal.returns-clause-keys
 returns-clause-keys c =

@@ -4,7 +4,7 @@ use Rattle.tsl_value.specs.inner.ScalarOrder.{scalar_cmp_total}
 use Rattle.tsl_value.proofs.ScalarOrder.{scalar_cmp-IsAntisymmetric}
 use Rattle.aggregate_store.proofs.FiniteMaps.{keys-of_keys}
 use Rattle.aggregate_store.proofs.Listed.{all_printed, begins_with, first_printed, none_printed}
-use Rattle.aggregate_store.proofs.print.append_keys.Goals as goal
+use Rattle.aggregate_store.proofs.print.append_scalars.Goals as goal
 
 pub returns-in_default-clause-ok : goal.returns-in_default-clause-ok
 returns-in_default-clause-ok c =

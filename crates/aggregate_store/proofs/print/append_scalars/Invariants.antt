@@ -1,7 +1,7 @@
 use Rattle.std.proofs.Common.{◌≡◌, ◌++◌, length, map, take}
 use Rattle.tsl_value.specs.Print.{listed, scalar_text}
 use Rattle.aggregate_store.proofs.Listed.{more_text}
-use Rattle.aggregate_store.proofs.print.append_keys.Given as goal
+use Rattle.aggregate_store.proofs.print.append_scalars.Given as goal
 
 abbrev pub invariant-loop-key : goal.invariant-loop-key
 invariant-loop-key l = record {
