@@ -1,6 +1,6 @@
 -- What is kept of an instant.
-use Rattle.std.proofs.Common.{◌≡◌, ◌==◌, ℕ, zero, suc, ◌+◌, ◌<◌, Bool, true, false, ◌&&◌, ◌||◌, List, [], ◌∷◌, length, map, get_or, set, take, cond, Option, None, refl, sym, ap, subst, arith, ◌∙◌, inl, inr}
-use Rattle.std.proofs.lemmas.Bool.{cases_Bool, eqb-true, eqb-false, eq-eqb, false≢true, true≢false}
+use Rattle.std.proofs.Common.{◌≡◌, ◌==◌, ℕ, zero, suc, ◌+◌, ◌<◌, ◌≤◌, Bool, true, false, ◌&&◌, ◌||◌, List, [], ◌∷◌, ◌++◌, length, map, get_or, set, take, drop, cond, Option, Some, None, refl, sym, ap, subst, arith, ◌∙◌, inl, inr}
+use Rattle.std.proofs.lemmas.Bool.{cases_Bool, cases_lt, eqb-true, eqb-false, eq-eqb, or_cases, false≢true, true≢false}
 use Rattle.std.specs.FinMap as finite_map
 use Rattle.std.specs.Cmp.{nat_cmp_total}
 use Rattle.std.specs.Ordering.{nat_cmp}
@@ -13,16 +13,17 @@ use Rattle.flat_core.specs.Kept.{keeps_of}
 use Rattle.monitor_run.specs.inner.Visits.{AreFilled, AreKept}
 use Rattle.std.proofs.Math.Bool.{or-false, or-true}
 use Rattle.std.proofs.Common.{length-set}
-use Rattle.std.proofs.lemmas.List.{get_or-set_same, get_or-set_other}
+use Rattle.std.proofs.lemmas.List.{drop_more, get_or_at, get_or_default, get_or_past, get_or-set_same, get_or-set_other, length-map, length-take}
 use Rattle.std.proofs.lemmas.List.Folds.{list_any_more}
 use Rattle.std.specs.Prelude.{◌≢◌, if◌then◌else◌, IsFalse, is_some, slice_index_or}
 use Rattle.body_eval.specs.declared.register.Register.{Register}
 use Rattle.body_eval.specs.declared.register.Register.TheVariants as register
-use Rattle.cell_reader.specs.inner.Cells.{Cells}
+use Rattle.cell_reader.specs.inner.Cells.{Cells, IsLive}
 use Rattle.body_eval.specs.inner.Registers.{HoldsLive, held}
 use Rattle.flat_core.specs.Members.{is_in}
 use Rattle.event_writer.specs.Text.{IsPrintable}
-use Rattle.monitor_run.specs.inner.Instant.{kept_in, kept_register}
+use Rattle.monitor_run.specs.inner.Here.{IsBare}
+use Rattle.monitor_run.specs.inner.Instant.{AreBare, kept_in, kept_register}
 use Rattle.monitor_run.specs.inner.Registers.{register_at}
 
 -- the registers of the first k that were filled have been emptied, and moved where they are kept
@@ -92,6 +93,50 @@ module _ (kept : ℕ → Bool) (filled : List ℕ) (k d : ℕ) (lt : k < length 
           → register_at (if q then kept_in (register_at now d) d after else after) d ≡ (if q then kept_register (register_at registers d) (register_at last d) else register_at last d)
       here true was = here_in (register_at now d) ∙ split (is_in (take k filled) d) was (a.moved d)
       here false was = was ∙ unkept (is_in (take k filled) d)
+
+  -- whether one of them held a cell
+  pub bare-one : ((i : ℕ) → is_in (take k filled) i ≡ true → IsBare (register_at registers i)) → IsBare (register_at now d) → (i : ℕ) → is_in (take (k + 1) filled) i ≡ true → IsBare (register_at registers i)
+  bare-one before here i there = elim (or_cases (is_in (take k filled) i) (d == i) (sym (more i) ∙ there)) [
+    | inl earlier ↦ before i earlier
+    | inr same ↦ subst (λ j. IsBare (register_at registers j)) (eqb-true d i same) (by (is_in (take k filled) d) refl)
+  ]
+    where
+      by : (b : Bool) → is_in (take k filled) d ≡ b → IsBare (register_at registers d)
+      by true listed = before d listed
+      by false none = subst IsBare (a.moved d ∙ (λ j. if none j then register.Empty else register_at registers d)) here
+
+-- those that were emptied first held none, and the others hold none now
+pub bare_either : (keeps : List ℕ) (registers after : List Register) → ((i : ℕ) → register_at after i ≡ (if is_in keeps i then register.Empty else register_at registers i)) → ((i : ℕ) → is_in keeps i ≡ true → IsBare (register_at registers i)) → AreBare after → AreBare registers
+bare_either keeps registers after after_is first rest i = by (is_in keeps i) refl
+  where
+    by : (b : Bool) → is_in keeps i ≡ b → IsBare (register_at registers i)
+    by true listed = first i listed
+    by false none = subst IsBare (after_is i ∙ (λ k. if none k then register.Empty else register_at registers i)) (rest i)
+
+-- registers that are emptied one after another: so far none held a cell
+pub bare_next : (registers now : List Register) (k : ℕ) (r : Register) → k < length registers → now ≡ map (λ q. register.Empty) (take k registers) ++ drop k registers → r ≡ get_or now k r → ((i : ℕ) → i < k → IsBare (register_at registers i)) → IsBare r → (i : ℕ) → i < k + 1 → IsBare (register_at registers i)
+bare_next registers now k r lt is read before here i below = elim (cases_lt i k) [
+  | inl earlier ↦ before i earlier
+  | inr later ↦ let same : k ≡ i = omega arith in subst (λ j. IsBare (register_at registers j)) same (subst IsBare there here)
+]
+  where
+    front : List Register
+    front = map (λ q. register.Empty) (take k registers)
+
+    long : length front ≡ k
+    long = let size = length-take k registers in length-map (take k registers) (λ q. register.Empty) ∙ omega arith
+
+    there : r ≡ register_at registers k
+    there =
+        read ∙ ap (λ l. get_or l k r) (is ∙ ap (λ l. front ++ l) (drop_more registers k r lt)) ∙ get_or_at front (get_or registers k r) (drop (k + 1) registers) r k long
+        ∙ get_or_default registers k r register.Empty lt
+
+-- and none of all
+pub bare_all : (registers : List Register) (k : ℕ) → length registers ≤ k → ((i : ℕ) → i < k → IsBare (register_at registers i)) → AreBare registers
+bare_all registers k all before i = elim (cases_lt i k) [
+  | inl within ↦ before i within
+  | inr past ↦ subst IsBare (sym (get_or_past registers i register.Empty (omega arith))) tt
+]
 
 pub kept_length : (r : Register) (i : ℕ) (last : List Register) → length (kept_in r i last) ≡ length last
 kept_length register.Empty i last = refl
@@ -172,16 +217,24 @@ emptied_either false filled registers f i = all_emptied filled registers (f refl
 pub all_known : (filled : List ℕ) (registers : List Register) → AreFilled filled registers → (n : ℕ) → n ≡ length registers → All (λ i. i < n) filled
 all_known filled registers f n size = All-from_recursion (λ i. i < n) filled (all_from (λ i. i < n) filled (λ i there. let lt = f.known i (in-Contains filled i there) in omega arith))
 
+-- nothing is dropped where each cell is listed
+pub all_listed : (cells : Cells) (listed : ℕ → Bool) → ((h : ℕ) → IsLive cells h → listed h ≡ true) → cells ≡ finite_map.retain_keys cells listed
+all_listed cells listed are =
+    finite_map.same_map nat_cmp_total finite_map.nat_cmp-IsAntisymmetric cells (finite_map.retain_keys cells listed) (λ q. sym (kept q ∙ stays q (finite_map.get cells q) refl))
+  where
+    kept : (q : ℕ) → finite_map.get (finite_map.retain_keys cells listed) q ≡ cond (listed q) (finite_map.get cells q) None
+    kept q = finite_map.get-retain_keys cells listed q (λ x tied. ap listed (sym (finite_map.nat_cmp-IsAntisymmetric q x tied)))
+
+    none : (b : Bool) → ◌≡◌ {A = Option View} (cond b None None) None
+    none true = refl
+    none false = refl
+
+    stays : (q : ℕ) (o : Option View) → finite_map.get cells q ≡ o → cond (listed q) (finite_map.get cells q) None ≡ finite_map.get cells q
+    stays q None is = (λ k. cond (listed q) (is k) None) ∙ none (listed q) ∙ sym is
+    stays q (Some v) is = λ k. cond (are q (ap is_some is) k) (finite_map.get cells q) None
+
 -- no cell is kept of none
 pub none_kept : (cells : Cells) (listed : ℕ → Bool) → finite_map.len cells ≡ 0 → cells ≡ finite_map.retain_keys cells listed
 none_kept cells listed none =
     let empty = finite_map.empty_of_len cells none in
-    empty ∙ finite_map.same_map nat_cmp_total finite_map.nat_cmp-IsAntisymmetric finite_map.empty (finite_map.retain_keys cells listed) (λ q. finite_map.get-empty nat_cmp q ∙ sym (gone q empty))
-  where
-    gone : (q : ℕ) → cells ≡ finite_map.empty → finite_map.get (finite_map.retain_keys cells listed) q ≡ None
-    gone q empty =
-        finite_map.get-retain_keys cells listed q (λ x tied. ap listed (sym (finite_map.nat_cmp-IsAntisymmetric q x tied))) ∙ (λ k. cond (listed q) (finite_map.get (empty k) q) None) ∙ (λ k. cond (listed q) (finite_map.get-empty nat_cmp q k) None) ∙ both (listed q)
-      where
-        both : (b : Bool) → ◌≡◌ {A = Option View} (cond b None None) None
-        both true = refl
-        both false = refl
+    all_listed cells listed (λ h live. absurd (false≢true (sym (ap (λ c. is_some (finite_map.get c h)) empty ∙ ap is_some (finite_map.get-empty nat_cmp h)) ∙ live)))

@@ -268,4 +268,5 @@ module _ (s : System) (whole : IsFlat s) (plan : Plan) (t : ℕ) (given : List L
         let few = few_live (cells_in new.last.items (keeps_of s)) new.store.cells only_listed in
         let stored = few_cells_in s new.last.items (keeps_of s) (all_from (λ i. (h : ℕ) → register_at new.last.items i ≡ register.Aggregate h → is_stored_type (equation s i) ≡ true) (keeps_of s) (λ i there. stored_type i (listed_kept s i (in-Contains (keeps_of s) i there)))) in
         omega arith;
+    listed = only_listed;
   }

@@ -45,7 +45,8 @@ use Rattle.monitor_run.proofs.ContentLemmas.{content_bounds, in_bounds, short_co
 use Rattle.monitor_run.proofs.InstantLemmas.{given_of, kept_runs, listed_kept}
 use Rattle.monitor_run.proofs.OneState.{firsts_renamed, none_after, place_renamed, rest_rises, value_first, value_later}
 use Rattle.monitor_run.proofs.Placed.{range_once}
-use Rattle.monitor_run.proofs.RestoredLemmas.{cell_of, index_of, map_at, place_number, range_low}
+use Rattle.monitor_run.proofs.BareLemmas.{cell_of}
+use Rattle.monitor_run.proofs.RestoredLemmas.{index_of, map_at, place_number, range_low}
 use Rattle.monitor_run.proofs.ShortLemmas.{inputs_short}
 use Rattle.monitor_run.proofs.ShownStates.{cell_listed, firsts_once, held_in, in_firsts, in_map, one_place, place, place_here, place_on, position_is, renaming}
 

@@ -330,6 +330,7 @@ runs-registers s whole plan t given events old mid new begins sound found refuse
   held = all.held;
   last = all.last;
   last_same = all.same.last ∙ begins.last;
+  cells_stay = λ bare. all.cells_stay bare ∙ ap (λ (st : Stored). st.cells) begins.store;
   timers = λ i. ap (λ ts. finite_map.get ts.times i) all.same.timers ∙ begins.timers i;
   positive = λ rootless i timer.
       let run = timer_runs s i timer in

@@ -22,6 +22,7 @@ pub mod InstantLemmas
 pub mod TableLemmas
 pub mod EndedLemmas
 pub mod SoleLemmas
+pub mod BareLemmas
 pub mod InstantOf
 pub mod DueTimes
 pub mod OpenLemmas

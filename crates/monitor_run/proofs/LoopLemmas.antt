@@ -35,7 +35,7 @@ use Rattle.register_machine.specs.Run.{Plan, step_instr, started, failed_by, roo
 use Rattle.monitor_run.specs.declared.machine.Machine.{Machine}
 use Rattle.monitor_run.specs.declared.run.Root.{Root}
 use Rattle.monitor_run.specs.inner.Here.{TakesTyped, is_blocked_here, is_given_op, is_marked}
-use Rattle.monitor_run.specs.inner.Instant.{HasPrinted, HasRunAll, HasRunOne, IsLeastRoot, IsPrinted, IsShownAt, SameBeside, Shows, StartsAs, name_of, root_beside}
+use Rattle.monitor_run.specs.inner.Instant.{AreBare, HasPrinted, HasRunAll, HasRunOne, IsLeastRoot, IsPrinted, IsShownAt, SameBeside, Shows, StartsAs, name_of, root_beside}
 use Rattle.monitor_run.specs.inner.Machine.{AreFresh, HasRoom, IsFresh}
 use Rattle.monitor_run.specs.inner.Registers.{AreHeld, register_at, value_at}
 use Rattle.monitor_run.specs.inner.Shown.{held_at, held_by}
@@ -43,7 +43,7 @@ use Rattle.monitor_run.proofs.CellLemmas.{seen_is}
 use Rattle.monitor_run.proofs.KeptTypes.{AllHeld, all_held}
 use Rattle.flat_core.proofs.Shapes.{one_equation, running_args, shape_of}
 use Rattle.monitor_run.proofs.PlanLemmas.{ComesNext, PrintsNext, fine_update, next_is, prints_next}
-use Rattle.monitor_run.proofs.RunLemmas.{CanRunOn, HasRunOn, RanOne, delay_none, given_same, mark_none, marks_same, others_same, run_on}
+use Rattle.monitor_run.proofs.RunLemmas.{CanRunOn, HasRunOn, RanOne, bare_before, cells_before, delay_none, given_same, mark_none, marks_same, others_same, run_on}
 use Rattle.monitor_run.proofs.RootLemmas.{least-at, least-one, least-same}
 use Rattle.monitor_run.proofs.TypedLemmas.{args_live, takes_typed}
 
@@ -91,6 +91,7 @@ pub record IsPartly (s : System) (plan : Plan) (t : ℕ) (front : List ℕ) (old
   pub given_stay : (i : ℕ) (e : Equation) → equation s i ≡ Some e → is_given_op e.op ≡ true → register_at mid.registers.items i ≡ register_at old.registers.items i
   pub sound : root ≡ None → (i : ℕ) → IsTrue (runs s i) → is_marked mid.faulted.items i ≡ false
   pub unprinted : (k : ℕ) → IsFalse (is_in front (length s.equations + k)) → slice_index_or mid.texts.items k [] ≡ []
+  pub cells_stay : AreBare mid.registers.items → mid.store.cells ≡ old.store.cells
   pub means : (inputs : Inputs) (a : run.State) → StartsAs s inputs t a old → HasDone s plan inputs t a front mid root
 
 -- ---- lists
@@ -121,6 +122,7 @@ partly_none s whole plan t old all fresh texts = record {
   given_stay = λ i e is so. refl;
   sound = λ none i run. let found = whole.proper.runs_all i run in (fresh.each i found.0 run found.1).unmarked;
   unprinted = λ k h. texts k;
+  cells_stay = λ bare. refl;
   means = λ inputs a starts. record {
     config = started a;
     ran = refl;
@@ -303,6 +305,10 @@ module _ (s : System) (whole : IsFlat s) (plan : Plan) (t : ℕ) (front : List �
           | inr other ↦ marks_same b t n next.at mid new found ran i other ∙ p.sound two.0 i run
         ];
     unprinted = λ k none. ap (λ v. slice_index_or v.items k []) texts ∙ p.unprinted k (no_other (length s.equations + k) none).0;
+    cells_stay = λ bare.
+        let fresh = (p.fresh n next.at next.running next.is next.new).empty in
+        let there_now : n < length mid.registers.items = (let size = p.same.registers_each in let each = room.registers in omega arith) in
+        cells_before b t n next.at mid new found ran there_now fresh bare ∙ p.cells_stay (bare_before b t n next.at mid new found ran there_now fresh bare);
     means = done_now;
   }
 
@@ -395,6 +401,7 @@ module _ (s : System) (whole : IsFlat s) (plan : Plan) (t : ℕ) (front rest : L
         let two = or_parts (is_in front (length s.equations + j)) (n == length s.equations + j) (sym (in_push front n (length s.equations + j)) ∙ none) in
         let apart : j ≢ k = λ same. eqb-false n (length s.equations + j) two.1 (omega arith) in
         ap (λ ts. slice_index_or ts j []) printed.text ∙ get_or-set_other mid.texts.items k j (event_line t (name_of (slice_get s.outputs k)) (value_at mid.store.cells mid.registers.items (print_of s k))) [] apart ∙ p.unprinted j two.0;
+    cells_stay = λ bare. ap (λ (st : Stored). st.cells) printed.store ∙ p.cells_stay (subst (λ v. AreBare v.items) printed.registers bare);
     means = done_print;
   }
 
@@ -450,6 +457,7 @@ module _ (s : System) (whole : IsFlat s) (plan : Plan) (t : ℕ) (old mid : Mach
     types = p.all.types;
     held = p.all.held;
     last = p.all.last;
+    cells_stay = p.cells_stay;
     means = λ inputs a starts.
         let d = p.means inputs a starts in
         record {

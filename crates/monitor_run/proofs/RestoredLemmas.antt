@@ -52,7 +52,8 @@ use Rattle.monitor_state.specs.Firsts.{firsts}
 use Rattle.monitor_run.specs.inner.Shown.{held_at, held_by, state_of}
 use Rattle.monitor_run.specs.inner.Stored.{is_stored_type, stored_count}
 use Rattle.monitor_run.proofs.ContentLemmas.{bounds_short, short_view}
-use Rattle.monitor_run.proofs.EndedLemmas.{cell_listed, few_cells_in, few_live}
+use Rattle.monitor_run.proofs.BareLemmas.{cell_of, tidy_listed}
+use Rattle.monitor_run.proofs.EndedLemmas.{few_cells_in, few_live}
 use Rattle.monitor_run.proofs.FilledLemmas.{as_many, contents_back, typed_view, view_at_place, view_of_place, views_there}
 use Rattle.monitor_run.proofs.InstantLemmas.{kept_runs, listed_kept, listed_timer}
 use Rattle.monitor_run.proofs.OneState.{firsts_renamed, place_renamed}
@@ -206,11 +207,6 @@ bare_same e = cc
 
 register_cell : {h k : ℕ} → register.Aggregate h ≡ register.Aggregate k → h ≡ k
 register_cell e = cc
-
-pub cell_of : (r : Register) (h : ℕ) → held_by r ≡ Some (Cell h) → r ≡ register.Aggregate h
-cell_of register.Empty h is = absurd (cc)
-cell_of (register.Scalar s) h is = absurd (cc)
-cell_of (register.Aggregate k) h is = let same : k ≡ h = cc in ap register.Aggregate same
 
 module _ (handles : List ℕ) (n : ℕ) (q : Renaming) (renames : map q.to (range_with_len 0 n) ≡ handles) where
   handle_is : (k : ℕ) → k < n → slice_index handles k ≡ q.to k
@@ -513,9 +509,7 @@ module _ (s : System) (whole : IsFlat s) (limit : ℕ) (st : MonitorState) (fits
       ap is_stored_type f.1 ∙ sym (elements_of f.0.of (view_at cells h) at.typed) ∙ at.live.1
 
   only_listed : (h : ℕ) → IsLive cells h → is_listed (cells_in last (keeps_of s)) h ≡ true
-  only_listed h live =
-      let by = live_named h live in
-      cell_listed last (keeps_of s) by.0 h (in-Contains (keeps_of s) by.0 by.1) (cell_of (register_at last by.0) h by.2)
+  only_listed h live = tidy_listed s cells ledger last timers tidy h live
 
   pub few : finite_map.len cells ≤ stored_count s
   few =

@@ -33,8 +33,8 @@ use Rattle.register_machine.proofs.Cells.{with-here, with-there}
 use Rattle.monitor_run.specs.declared.machine.Machine.{Machine}
 use Rattle.monitor_run.specs.declared.run.Root.{Root}
 use Rattle.flat_core.specs.inner.Arity.{HasArity}
-use Rattle.monitor_run.specs.inner.Here.{HasEffect, HasMade, effect_here, is_blocked_here, is_given_op, is_marked, source_of}
-use Rattle.monitor_run.specs.inner.Instant.{HasRunOne, was_given, was_barred, was_filled, has_failed, IsGivenEvent, IsShownAt, ShowsBeside}
+use Rattle.monitor_run.specs.inner.Here.{HasEffect, HasMade, IsBare, effect_here, is_blocked_here, is_given_op, is_marked, source_of}
+use Rattle.monitor_run.specs.inner.Instant.{AreBare, HasRunOne, was_given, was_barred, was_filled, has_failed, IsGivenEvent, IsShownAt, ShowsBeside}
 use Rattle.monitor_run.specs.inner.Machine.{IsFresh}
 use Rattle.monitor_run.specs.inner.Registers.{register_at}
 use Rattle.monitor_run.specs.inner.Shown.{IsShown, config_of, held_at, held_by}
@@ -394,3 +394,39 @@ module _ (in_place : Bool) (t n : ℕ) (e : Equation) (old new : Machine) where
   given_same root (was_barred other blocked registers marks store) so = absurd (true≢false (sym so ∙ other))
   given_same root (was_filled r other sound has registers marks) so = absurd (true≢false (sym so ∙ other))
   given_same root (has_failed kind other sound has registers marks) so = absurd (true≢false (sym so ∙ other))
+
+  -- where no register holds a cell then, none did before, and no cell was made or changed
+  module _ (root : Option Root) (ran : HasRunOne in_place t n e old new root) (there : n < length old.registers.items) (fresh : is_given_op e.op ≡ false → register_at old.registers.items n ≡ register.Empty) (bare : AreBare new.registers.items) where
+    pub bare_before : AreBare old.registers.items
+    bare_before i = elim (cases_eq i n) [
+      | inl same ↦ subst (λ j. IsBare (register_at old.registers.items j)) (sym same) (here (is_given_op e.op) refl)
+      | inr other ↦ subst IsBare (others_same root ran i other) (bare i)
+    ]
+      where
+        here : (b : Bool) → is_given_op e.op ≡ b → IsBare (register_at old.registers.items n)
+        here true given = subst IsBare (given_same root ran given) (bare n)
+        here false other = subst IsBare (sym (fresh other)) tt
+
+    made_cell : (update by : Bool) (source r : Register) (v : View) → HasMade update by n source old.store new.store r v → (h : ℕ) × (r ≡ register.Aggregate h)
+    made_cell false by source r v has = (has.0.handle, has.0.is)
+    made_cell true false source r v has = (has.0.handle, has.0.is)
+    made_cell true true source r v has = (has.0, has.2)
+
+    pub cells_before : new.store.cells ≡ old.store.cells
+    cells_before = by root ran
+      where
+        filled : (r : Register) (does : Effect) → new.registers.items ≡ slice_set old.registers.items n r → HasEffect in_place n e.op (source_of old.registers.items e.args) old.store new.store (Ok r) does → new.store.cells ≡ old.store.cells
+        filled r (Fill slot) registers has = ap (λ (s : Stored). s.cells) has.1
+        filled r (Make v) registers has =
+            let made = made_cell (is_update e.op) in_place (source_of old.registers.items e.args) r v has in
+            absurd (subst IsBare (ap (λ rs. register_at rs n) registers ∙ get_or-set_same old.registers.items n r register.Empty there ∙ made.1) (bare n))
+
+        failed : (kind : FaultKind) (does : Effect) → HasEffect in_place n e.op (source_of old.registers.items e.args) old.store new.store (Err (eval_fault.Fault kind)) does → new.store.cells ≡ old.store.cells
+        failed kind (Fill slot) has = ap (λ (s : Stored). s.cells) has.1
+        failed kind (Make v) has = absurd has
+
+        by : (found : Option Root) → HasRunOne in_place t n e old new found → new.store.cells ≡ old.store.cells
+        by found (was_given is same) = ap (λ (m : Machine). m.store.cells) same
+        by found (was_barred other blocked registers marks store) = ap (λ (s : Stored). s.cells) store
+        by found (was_filled r other sound has registers marks) = filled r (effect_here old.registers.items old.last.items old.store n t e) registers has
+        by found (has_failed kind other sound has registers marks) = failed kind (effect_here old.registers.items old.last.items old.store n t e) has

@@ -1,7 +1,7 @@
 -- The one cell that is there, where one is held.
 use Rattle.std.proofs.Common.{◌≡◌, ◌==◌, ℕ, ◌<◌, ◌-◌, Bool, true, false, List, [], ◌∷◌, length, cond, None, refl, sym, ap, subst, ◌∙◌, inl, inr, arith}
 use Rattle.std.proofs.lemmas.Bool.{eq-eqb, eqb-true, false≢true, ne_eqb, or_cases, or_left, or_right, true≢false}
-use Rattle.std.specs.Prelude.{if◌then◌else◌, ◌≢◌, nat_eq}
+use Rattle.std.specs.Prelude.{if◌then◌else◌, ◌≢◌, is_some, nat_eq}
 use Rattle.std.specs.FinMap as finite_map
 use Rattle.std.specs.Cmp.{nat_cmp_total, unsigned_tied}
 use Rattle.std.specs.Ordering.{eq_by_cmp, nat_cmp}
@@ -17,6 +17,7 @@ use Rattle.flat_core.specs.System.{System}
 use Rattle.flat_core.specs.Kept.{keeps_of}
 use Rattle.monitor_run.specs.inner.Instant.{cell_in, cells_in, kept_register}
 use Rattle.monitor_run.specs.inner.Registers.{AreHeld, register_at}
+use Rattle.monitor_run.proofs.EndLemmas.{all_listed}
 use Rattle.monitor_run.proofs.EndedLemmas.{listed_append}
 use Rattle.monitor_run.proofs.InstantLemmas.{kept_runs, listed_kept}
 
@@ -30,23 +31,19 @@ only_one c h q one live other =
 -- it is all that there is, so nothing is dropped
 pub sole_kept : (cells : Cells) (held : List ℕ) → finite_map.len cells ≡ 1 → 0 < length held → ((h : ℕ) → is_listed held h ≡ true → IsLive cells h) → cells ≡ finite_map.retain_keys cells (is_listed held)
 sole_kept cells [] one some live = absurd (omega arith)
-sole_kept cells (h ∷ held) one some live =
-    finite_map.same_map nat_cmp_total finite_map.nat_cmp-IsAntisymmetric cells (finite_map.retain_keys cells (is_listed (h ∷ held))) (λ q. sym (kept q ∙ split q (is_listed (h ∷ held) q) refl))
+sole_kept cells (h ∷ held) one some live = all_listed cells (is_listed (h ∷ held)) (λ q there. split q there (is_listed (h ∷ held) q) refl)
   where
     here : is_listed (h ∷ held) h ≡ true
     here = or_left (nat_eq h h) (is_listed held h) (eq-eqb h h refl)
 
-    kept : (q : ℕ) → finite_map.get (finite_map.retain_keys cells (is_listed (h ∷ held))) q ≡ cond (is_listed (h ∷ held) q) (finite_map.get cells q) None
-    kept q = finite_map.get-retain_keys cells (is_listed (h ∷ held)) q (λ x tied. ap (is_listed (h ∷ held)) (sym (finite_map.nat_cmp-IsAntisymmetric q x tied)))
-
-    split : (q : ℕ) (b : Bool) → is_listed (h ∷ held) q ≡ b → cond (is_listed (h ∷ held) q) (finite_map.get cells q) None ≡ finite_map.get cells q
-    split q true listed = λ k. cond (listed k) (finite_map.get cells q) None
-    split q false none =
-        (λ k. cond (none k) (finite_map.get cells q) None)
-        ∙ sym (only_one cells h q one (live h here) (λ same. true≢false (sym (ap (is_listed (h ∷ held)) same ∙ here) ∙ none)))
+    split : (q : ℕ) → IsLive cells q → (b : Bool) → is_listed (h ∷ held) q ≡ b → is_listed (h ∷ held) q ≡ true
+    split q there true listed = listed
+    split q there false none =
+        let gone = only_one cells h q one (live h here) (λ same. true≢false (sym (ap (is_listed (h ∷ held)) same ∙ here) ∙ none)) in
+        absurd (false≢true (sym (ap is_some gone) ∙ there))
 
 -- ---- what is listed is live
-listed_cell : (last : List Register) (keeps : List ℕ) (h : ℕ) → is_listed (cells_in last keeps) h ≡ true → (i : ℕ) × (is_in keeps i ≡ true) × (register_at last i ≡ register.Aggregate h)
+pub listed_cell : (last : List Register) (keeps : List ℕ) (h : ℕ) → is_listed (cells_in last keeps) h ≡ true → (i : ℕ) × (is_in keeps i ≡ true) × (register_at last i ≡ register.Aggregate h)
 listed_cell last [] h there = absurd (false≢true there)
 listed_cell last (k ∷ keeps) h there = elim (or_cases (is_listed (cell_in (register_at last k)) h) (is_listed (cells_in last keeps) h) (sym (listed_append (cell_in (register_at last k)) (cells_in last keeps) h) ∙ there)) [
   | inl here ↦ (k, or_left (k == k) (is_in keeps k) (eq-eqb k k refl), one (register_at last k) here)

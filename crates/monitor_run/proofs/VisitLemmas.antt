@@ -415,6 +415,7 @@ all_printed s plan t at_once before old m root can all = record {
   types = all.types;
   held = all.held;
   last = all.last;
+  cells_stay = all.cells_stay;
   means = λ inputs a starts. all.means inputs a (record {
     given = λ i e run is. let g = starts.given i e run is in record { input = g.input; delay = g.delay };
     beside = record { lasts = starts.beside.lasts; cells = starts.beside.cells; ledger = starts.beside.ledger };

@@ -7,7 +7,8 @@ ghost use Rattle.flat_core.specs.Kept.{keeps_of, timers_of};
 ghost use Rattle.alias_rules.specs.Fine.{IsFinePlan};
 ghost use Rattle.step_uses.specs.Uses.{row};
 ghost use Rattle.monitor_run.specs.inner.Given.{AreAt, AreEventLines};
-ghost use Rattle.monitor_run.specs.inner.Instant.{Begins, HasEnded, HasRunRegisters, IsInstant, IsInstantBegun, IsSound};
+ghost use Rattle.monitor_run.specs.inner.Instant.{AreBare, AreListed, Begins, HasEnded, HasRunRegisters, IsInstant, IsInstantBegun};
+ghost use Rattle.monitor_run.specs.inner.Instant.{IsSound};
 ghost use Rattle.monitor_run.specs.inner.Machine.{AreUnmarked, CanPrint, HasRoom, front_of, printed_to};
 ghost use Rattle.tsl_value.specs.declared.scalar.ValueType.{ValueType};
 ghost use Rattle.monitor_run.specs.inner.Registers.{AreHeld, register_at};
@@ -164,6 +165,7 @@ fn end(
     requires held { (types : ℕ → ValueType)
         × AreHeld flat.now types machine.old.store.cells machine.old.registers.items
         × AreHeld flat.now types machine.old.store.cells machine.old.last.items }
+    requires listed { AreBare machine.old.registers.items → AreListed flat.now machine.old }
     ensures room { HasRoom flat.now machine.new }
     ensures faulted { machine.new.faulted ≡ machine.old.faulted }
     ensures texts { machine.new.texts ≡ machine.old.texts }
@@ -177,7 +179,7 @@ fn end(
         &machine.registers,
         &mut machine.timers,
     );
-    keep_filled(
+    let touched = keep_filled(
         all,
         &tables.kept,
         keeps,
@@ -185,7 +187,13 @@ fn end(
         &mut machine.registers,
         &mut machine.last,
     );
-    drop_others(keeps, &machine.last, &mut machine.kept, &mut machine.store)
+    drop_others(
+        touched,
+        keeps,
+        &machine.last,
+        &mut machine.kept,
+        &mut machine.store,
+    )
 }
 
 /// Runs an instant. Where it has a root fault, that is answered and nothing is kept or appended.

@@ -12,7 +12,7 @@ use Rattle.body_eval.specs.declared.eval.EvalFault.TheVariants as eval_fault
 use Rattle.lift_func.specs.declared.fault.FaultKind.{FaultKind}
 use Rattle.body_eval.specs.declared.register.Register.{Register}
 use Rattle.body_eval.specs.declared.register.Register.TheVariants as register
-use Rattle.cell_reader.specs.inner.Cells.{Cells}
+use Rattle.cell_reader.specs.inner.Cells.{Cells, IsLive}
 use Rattle.flat_core.specs.declared.equation.Equation.{Equation}
 use Rattle.flat_core.specs.declared.equation.Output.{Output}
 use Rattle.flat_core.specs.declared.equation.Op.{Op}
@@ -35,7 +35,7 @@ use Rattle.monitor_run.specs.declared.machine.Machine.{Machine}
 use Rattle.monitor_run.specs.declared.run.Root.{Root}
 use Rattle.monitor_run.specs.inner.Begun.{IsBegunOf}
 use Rattle.monitor_run.specs.inner.Stored.{stored_count}
-use Rattle.monitor_run.specs.inner.Here.{HasEffect, effect_here, first_of, is_blocked_here, is_given_op, is_marked, source_of}
+use Rattle.monitor_run.specs.inner.Here.{HasEffect, IsBare, effect_here, first_of, is_blocked_here, is_given_op, is_marked, source_of}
 use Rattle.monitor_run.specs.inner.Registers.{AreHeld, register_at, value_at}
 use Rattle.monitor_run.specs.inner.Shown.{IsShown, held_at, state_of}
 
@@ -134,6 +134,10 @@ pub record HasPrinted (s : System) (t k : ℕ) (old new : Machine) : Type 0 wher
 
 -- ---- all steps
 
+-- No register holds a cell. So no cell was made or changed, since an equation that does that fills its register with the cell.
+abbrev pub AreBare : List Register → Type 0
+AreBare registers = (i : ℕ) → IsBare (register_at registers i)
+
 -- what the code has of equation i stands for the machine's register
 abbrev pub IsShownAt : Machine → Config → ℕ → Type 0
 IsShownAt m c i = IsShown (is_marked m.faulted.items i) (register_at m.registers.items i) (c.slots i)
@@ -193,6 +197,7 @@ pub record HasRunAll (s : System) (plan : Plan) (t : ℕ) (old new : Machine) (r
   pub types : ℕ → ValueType
   pub held : AreHeld s types new.store.cells new.registers.items
   pub last : AreHeld s types new.store.cells new.last.items
+  pub cells_stay : AreBare new.registers.items → new.store.cells ≡ old.store.cells
   pub means : (inputs : Inputs) (a : run.State) → StartsAs s inputs t a old → HasRunBody s plan inputs t a new root
 
 -- ---- delays
@@ -257,6 +262,10 @@ kept_of m = state_of m.store.cells m.store.ledger m.last.items m.timers.times
 abbrev pub AreInputs : List Line → ℕ → Inputs → Type 0
 AreInputs given t inputs = (i : ℕ) → inputs_of given i t ≡ inputs i t
 
+-- each cell is held by a last register
+abbrev pub AreListed : System → Machine → Type 0
+AreListed s m = (h : ℕ) → IsLive m.store.cells h → IsTrue (is_listed (cells_in m.last.items (keeps_of s)) h)
+
 -- what is kept is sound, and nothing is pending before a time
 pub record IsSound (s : System) (from : ℕ) (m : Machine) : Type 0 where
   pub types : ℕ → ValueType
@@ -264,6 +273,7 @@ pub record IsSound (s : System) (from : ℕ) (m : Machine) : Type 0 where
   pub unkept : AreUnkept s m.last.items
   pub timers : AreTimers s from m.timers.times
   pub few_cells : map.len m.store.cells ≤ stored_count s
+  pub listed : AreListed s m
 
 -- The instant has been run up to its last print, and the least root fault there is known.
 pub record HasReached (s : System) (plan : Plan) (inputs : Inputs) (t : ℕ) (old new : Machine) (root : Option Root) : Type 0 where
@@ -284,6 +294,7 @@ pub record HasRunRegisters (s : System) (plan : Plan) (t : ℕ) (given : List Li
   pub held : AreHeld s types new.store.cells new.registers.items
   pub last : AreHeld s types new.store.cells new.last.items
   pub last_same : new.last.items ≡ old.last.items
+  pub cells_stay : AreBare new.registers.items → new.store.cells ≡ old.store.cells
   pub timers : (i : ℕ) → map.get new.timers.times i ≡ left_at t (map.get old.timers.times i)
   pub positive : root ≡ None → (i : ℕ) → IsTrue (is_timer s i) → refusal_of (equation s i) new.store.cells new.registers.items ≡ None
   pub means : (inputs : Inputs) → AreInputs given t inputs → HasReached s plan inputs t old new root

@@ -11,7 +11,7 @@ pub returns-then-not-is_empty-clause-kept : goal.returns-then-not-is_empty-claus
 returns-then-not-is_empty-clause-kept c =
     let r = c.replace-register.result in
     let there = c.requires.there in
-    let e : r ≡ register_at c.args.registers.now c.args.place = c.replace-register.ensures.value ∙ get_or_default c.args.registers.now c.args.place c.index-registers-place.result register.Empty (omega arith) in
+    let e : r ≡ register_at c.args.registers.now c.args.place = c.replace-register.ensures.value ∙ get_or_default c.args.registers.now c.args.place c.index-registers-place-2.result register.Empty (omega arith) in
     c.put.ensures ∙ sym (kept_some r c.args.place c.args.last.now (λ cells. c.is_empty.ensures cells ∙ ap not c.if-not-is_empty.true))
     ∙ ap (λ q. kept_in q c.args.place c.args.last.now) e
     ∙ sym (λ k. if c.if-not-is_kept.false k then kept_in (register_at c.args.registers.now c.args.place) c.args.place c.args.last.now else c.args.last.now)
@@ -22,6 +22,6 @@ returns-else-not-is_empty-clause-kept c =
     let last = c.args.last.now in
     let place = c.args.place in
     let there = c.requires.there in
-    let e : r ≡ register_at c.args.registers.now place = c.replace-register.ensures.value ∙ get_or_default c.args.registers.now place c.index-registers-place.result register.Empty (omega arith) in
+    let e : r ≡ register_at c.args.registers.now place = c.replace-register.ensures.value ∙ get_or_default c.args.registers.now place c.index-registers-place-2.result register.Empty (omega arith) in
     sym ((λ k. if c.if-not-is_kept.false k then kept_in (register_at c.args.registers.now place) place last else last) ∙ ap (λ q. kept_in q place last) (sym e)
     ∙ kept_none r place last (λ cells. c.is_empty.ensures cells ∙ ap not c.if-not-is_empty.false))

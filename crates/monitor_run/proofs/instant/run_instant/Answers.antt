@@ -4,10 +4,12 @@ use Rattle.std.specs.Vec.{with_items}
 use Rattle.flat_core.specs.System.{System}
 use Rattle.tsl_value.specs.declared.scalar.ValueType.{ValueType}
 use Rattle.register_machine.specs.Run.{Plan}
-use Rattle.monitor_run.specs.inner.Instant.{HasEnded}
+use Rattle.monitor_run.specs.inner.Instant.{AreBare, AreListed, HasEnded, HasRunRegisters}
 use Rattle.monitor_run.specs.inner.Here.{is_marked}
-use Rattle.monitor_run.specs.inner.Machine.{AreUnmarked, HasRoom}
+use Rattle.monitor_run.specs.inner.Machine.{AreUnmarked, HasRoom, printed_to}
 use Rattle.monitor_run.specs.inner.Registers.{AreHeld}
+use Rattle.monitor_run.specs.inner.Shown.{plan_in}
+use Rattle.monitor_run.proofs.BareLemmas.{listed_on}
 use Rattle.monitor_run.proofs.EventLemmas.{on_err}
 use Rattle.monitor_run.proofs.PrintedInstant.{all_appended, has_run_to, instant_ended, instant_faulted, part_appended}
 use Rattle.monitor_run.proofs.instant.run_instant.Goals as goal
@@ -25,6 +27,14 @@ end-requires-clause-held c =
     let ran = c.in-Ok.ensures.ran in
     let m = c.run_registers.new.machine in
     subst (λ (q : System). (types : ℕ → ValueType) × AreHeld q types m.store.cells m.registers.items × AreHeld q types m.store.cells m.last.items) (c.flat.ensures.flat ∙ sym c.flat-then-is_none.ensures.flat) (ran.types, ran.held, ran.last)
+
+pub end-requires-clause-listed : goal.end-requires-clause-listed
+end-requires-clause-listed c =
+    let m = c.run_registers.new.machine in
+    let plan = plan_in c.plan.result.now in
+    let ran = subst (λ (q : System). HasRunRegisters q plan c.args.time c.args.given.now.items c.args.machine.now (printed_to c.start_of-at_once.result c.run_registers.new.out m) c.in-Ok.root) c.flat.ensures.flat c.in-Ok.ensures.ran in
+    subst (λ (q : System). AreBare m.registers.items → AreListed q m) (sym c.flat-then-is_none.ensures.flat)
+    (listed_on c.args.code.now.system plan c.args.time c.args.given.now.items c.args.machine.now (printed_to c.start_of-at_once.result c.run_registers.new.out m) c.in-Ok.root c.requires.sound.listed ran)
 
 pub returns-in_err-end-clause-err : goal.returns-in_err-end-clause-err
 returns-in_err-end-clause-err c =

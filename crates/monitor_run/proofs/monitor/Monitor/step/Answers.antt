@@ -8,6 +8,7 @@ use Rattle.monitor_run.specs.inner.Next.{IsIdle, IsNextTime, NothingBefore}
 use Rattle.monitor_run.specs.inner.Stands.{Stands}
 use Rattle.monitor_run.specs.inner.State.{State}
 use Rattle.monitor_run.specs.inner.Steps.{HasFaulted, HasRun, IsAtLimit, IsBegun, NoneIsLeft}
+use Rattle.monitor_run.proofs.BareLemmas.{tidy_listed}
 use Rattle.monitor_run.proofs.MonitorLemmas.{begun_is, below_limit, fault_is, limit_is, none_left, ready_on, run_is}
 use Rattle.monitor_run.proofs.AnyStep.{named_runs, run_any}
 use Rattle.monitor_run.proofs.monitor.Monitor.step.Goals as goal
@@ -41,6 +42,22 @@ pub run_instant-requires-clause-one : goal.run_instant-requires-clause-one
 run_instant-requires-clause-one c =
     let ready = c.self.invariant.1 c.in_default.is in
     (ready.time, ready.given_at)
+
+pub run_instant-requires-clause-sound : goal.run_instant-requires-clause-sound
+run_instant-requires-clause-sound c =
+    let inside = c.self.inside in
+    let m = inside.machine in
+    let ready = c.self.invariant.1 c.in_default.is in
+    let t = c.in-Some-next_below.time in
+    let found = subst (λ gs. IsNextTime inside.next inside.bound gs m.timers.times (Some t)) c.deref.ensures.value c.in-Some-next_below.ensures in
+    record {
+      types = ready.types;
+      last = ready.last;
+      unkept = ready.unkept;
+      timers = record { each = λ i u at. let timer = ready.timers.each i u at in (timer.0, found.2.delays i u at, timer.2) };
+      few_cells = ready.few_cells;
+      listed = tidy_listed inside.code.now.system m.store.cells m.store.ledger m.last.items m.timers.times ready.tidy;
+    }
 
 pub invariant_of-self-in-Ok-None : goal.invariant_of-self-in-Ok-None
 invariant_of-self-in-Ok-None c = (
