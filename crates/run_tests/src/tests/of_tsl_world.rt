@@ -39,14 +39,14 @@ fn visits<W: World>(
     Ok((first, second, buf[0], written))
 }
 
-// An absent file is empty for it.
+// An absent file is empty for it, whatever other files there are.
 #[test]
 fn a_calm_world_never_fails(rt: HostRuntime) -> Result<(), Fail> {
     let mut world = CalmWorld::new(rt.alloc(), two_files(rt.alloc())?, 2)?;
     assert!(rt; visits(&mut world, "a", "s") == Ok((2, 1, b'z', 2)));
     assert!(rt; world.write(Channel::Err, b"err\n") == Ok(2));
     assert!(rt; world.is_told() && world.err() == b"er".as_slice());
-    let mut other = CalmWorld::new(rt.alloc(), Files::new(rt.alloc()), 2)?;
+    let mut other = CalmWorld::new(rt.alloc(), two_files(rt.alloc())?, 2)?;
     assert!(rt; visits(&mut other, "absent", "s") == Ok((0, 0, 0, 2)));
     Ok(())
 }
