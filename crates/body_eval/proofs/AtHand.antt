@@ -1,6 +1,7 @@
 -- What a body that reads an aggregate gives, where the aggregate is in a register and the key at hand.
-use Rattle.std.proofs.Common.{◌≡◌, ℕ, Bool, true, List, Option, Some, Result, Ok, Err, ℤ, pos, refl, sym, ap, subst, ◌∙◌}
-use Rattle.std.specs.Prelude.{All, IfSome, slice_index_or}
+use Rattle.std.proofs.Common.{◌≡◌, ℕ, Bool, true, List, Option, Some, None, Result, Ok, Err, Bor, ℤ, pos, refl, sym, ap, subst, ◌∙◌}
+use Rattle.std.specs.Prelude.{All, IfSome, is_some, slice_index_or}
+use Rattle.std.specs.Option.{option_copied, option_map}
 use Rattle.std.specs.Result.{result_ok}
 use Rattle.tsl_value.specs.View.{Plain}
 use Rattle.tsl_value.specs.declared.scalar.Scalar.{Scalar}
@@ -11,15 +12,19 @@ use Rattle.tsl_value.specs.declared.operation.Binary.TheVariants as binary
 use Rattle.lift_func.specs.declared.fault.FaultKind.{FaultKind}
 use Rattle.body_eval.specs.declared.register.Register.{Register}
 use Rattle.body_eval.specs.declared.register.Register.TheVariants as register
-use Rattle.lift_func.specs.Apply.{apply, and_then, bool, both, contained, int, of_one}
+use Rattle.lift_func.specs.Apply.{apply, and_then, at_key, bool, both, contained, found, int, of_one}
 use Rattle.lift_func.specs.BodyTree.{BodyTree, One, Two}
 use Rattle.tsl_value.specs.Aggregate.{size_of}
 use Rattle.body_eval.specs.inner.Answered.{IsInt}
-use Rattle.cell_reader.specs.inner.Cells.{Cells, IsLive, has_key, view_at}
+use Rattle.cell_reader.specs.inner.Cells.{Cells, IsLive, has_key, value_at, view_at}
 use Rattle.body_eval.specs.inner.Registers.{HoldsLive, arguments, held}
 use Rattle.body_eval.specs.inner.Evaluable.{CanRead, IsHeld, IsTypedAt, is_read}
-use Rattle.body_eval.proofs.CellReads.{contained_is, size_is}
+use Rattle.body_eval.proofs.CellReads.{at_key_is, contained_is, map_has, size_is}
 use Rattle.body_eval.proofs.Evaluation.{reads}
+
+copied_is : (seen : Option (Bor Scalar)) → is_some (option_copied seen) ≡ is_some seen
+copied_is None = refl
+copied_is (Some s) = refl
 
 module _ (cells : Cells) (registers : List Register) (args : List ℕ) where
   abbrev AreLive : Type 0
@@ -51,3 +56,18 @@ module _ (cells : Cells) (registers : List Register) (args : List ℕ) where
           (λ k. both contained ((named t.live).0 k) (second k))
           ∙ contained_is (view_at cells handle) key (cell_reads binary.Contains refl t)
           ∙ ap bool (sym h)
+
+      -- what a map has at the key tells whether the key is there
+      pub cell_asked : IsTypedAt cells registers args (Two binary.Get a b) → (seen : Option (Bor Scalar)) → option_copied seen ≡ value_at (view_at cells handle) key → apply (Two binary.Contains a b) (arguments cells registers args) ≡ Ok (Some (Plain (scalar.Bool (is_some seen))))
+      cell_asked t seen h =
+          let can = cell_reads binary.Get refl t in
+          (λ k. both contained ((named t.live).0 k) (second k))
+          ∙ contained_is (view_at cells handle) key can.1
+          ∙ ap bool (map_has (view_at cells handle) key can.0 ∙ ap is_some (sym h) ∙ copied_is seen)
+
+      pub cell_found : IsTypedAt cells registers args (Two binary.Get a b) → (seen : Option (Bor Scalar)) → option_copied seen ≡ value_at (view_at cells handle) key → IfSome seen (λ s. apply (Two binary.Get a b) (arguments cells registers args) ≡ Ok (Some (Plain s.now)))
+      cell_found t None h = tt
+      cell_found t (Some s) h =
+          (λ k. both at_key ((named t.live).0 k) (second k))
+          ∙ at_key_is (view_at cells handle) key (cell_reads binary.Get refl t).0
+          ∙ ap (λ v. found (option_map Plain v)) (sym h)

@@ -1,6 +1,6 @@
 -- What registers hold, and what reading a cell gives.
 use Rattle.std.proofs.Common.{◌≡◌, ℕ, Bool, true, false, ◌&&◌, List, [], ◌∷◌, Option, Some, None, Result, Ok, Err, pos, refl, sym, subst, ◌∙◌}
-use Rattle.std.specs.Prelude.{IsTrue, if◌then◌else◌}
+use Rattle.std.specs.Prelude.{IsTrue, if◌then◌else◌, is_some}
 use Rattle.std.specs.List.{list_all}
 use Rattle.std.specs.Option.{option_map}
 use Rattle.std.specs.FinMap as map
@@ -45,6 +45,12 @@ at_key_is (Plain s) key is = absurd is
 at_key_is (Keyed s) key is = absurd is
 at_key_is (Mapped m) key is = refl
 at_key_is (Listed xs) key is = absurd is
+
+pub map_has : (v : View) (key : Scalar) → IsMap v → has_key v key ≡ is_some (value_at v key)
+map_has (Plain s) key is = absurd is
+map_has (Keyed s) key is = absurd is
+map_has (Mapped m) key is = refl
+map_has (Listed xs) key is = absurd is
 
 -- what stands in front of a queue, and that nothing does
 pub front_is : (v : View) (x : Scalar) → front_of v ≡ Some x → of_one unary.Front (Some v) ≡ Ok (Some (Plain x))

@@ -18,6 +18,7 @@ use cell_reader::reader::Reader;
 use lift_func::body::{Body, Node};
 use lift_func::fault::FaultKind;
 use std::alloc::Global;
+use tsl_value::ids::EqId;
 use tsl_value::memory::NoMemory;
 use tsl_value::scalar::Scalar;
 
@@ -106,18 +107,18 @@ pub fn eval_scalars(
 }
 
 /// The register of a number. One that is not there holds nothing.
-fn register_at(registers: &[Register], a: u32) -> Result<Register, NoMemory>
+fn register_at(registers: &[Register], a: EqId) -> Result<Register, NoMemory>
     ensures value { IfOk result (λ r. r ≡ slice_index_or registers.now a Register.Empty) }
     ensures text { OnErr result ((cells : Cells) → IsText (held cells (slice_index_or registers.now a Register.Empty))) }
 {
-    match registers.get(a as usize) {
+    match registers.get(a.get() as usize) {
         Some(register) => register.copy(),
         None => Ok(Register::Empty),
     }
 }
 
 /// The register that an argument names. One that is not there holds nothing.
-fn named_at(registers: &[Register], args: &[u32], k: usize) -> Result<Register, NoMemory>
+fn named_at(registers: &[Register], args: &[EqId], k: usize) -> Result<Register, NoMemory>
     ensures held { IfOk result (λ r. (cells : Cells) → slice_index_or (arguments cells registers.now args.now) k None ≡ held cells r) }
     ensures live { IfOk result (λ r. (cells : Cells)
         → All (λ a. HoldsLive cells (slice_index_or registers.now a Register.Empty)) args.now
@@ -135,7 +136,7 @@ fn eval_register<R: Reader>(
     alloc: Global,
     body: &Body,
     registers: &[Register],
-    args: &[u32],
+    args: &[EqId],
     reader: &R,
 ) -> Result<Register, EvalFault>
     requires { IsTypedAt (R.cells reader.now) registers.now args.now body.now }
@@ -186,7 +187,7 @@ pub fn eval<R: Reader>(
     alloc: Global,
     body: &Body,
     registers: &[Register],
-    args: &[u32],
+    args: &[EqId],
     reader: &R,
 ) -> Result<Option<Scalar>, EvalFault>
     requires { IsEvaluable (R.cells reader.now) registers.now args.now body.now }

@@ -4,6 +4,6 @@
 pub mod eval;
 pub mod law;
 mod operation;
-mod quick;
+pub mod quick;
 mod read;
 pub mod register;

@@ -3,7 +3,7 @@
 // What a body reads stays where it lies, in a register, a cell or the body, and no memory is taken. `None` says nothing: where a value
 // is not at hand, as where there may be a fault, the evaluation tells what it is.
 
-ghost use Rattle.std.specs.Prelude.{◌≡◌, All, IfSome, slice_index_or};
+ghost use Rattle.std.specs.Prelude.{◌≡◌, All, IfSome, IsTrue, is_some, slice_index_or};
 ghost use Rattle.tsl_value.specs.View.{Plain};
 ghost use Rattle.lift_func.specs.Apply.{apply, of_two};
 ghost use Rattle.lift_func.specs.BodyTree.{One, Two};
@@ -17,12 +17,13 @@ use crate::register::Register;
 use cell_reader::reader::Reader;
 use lift_func::body::{Body, Node};
 use lift_func::faulting::is_arithmetic;
+use tsl_value::ids::EqId;
 use tsl_value::operation::{Binary, Unary};
 use tsl_value::scalar::Scalar;
 
 /// The register that a body names, if it is an argument.
 #[inline(always)]
-fn named<'a>(body: &Body, registers: &'a [Register], args: &[u32]) -> Option<&'a Register>
+fn named<'a>(body: &Body, registers: &'a [Register], args: &[EqId]) -> Option<&'a Register>
     ensures value { IfSome result (λ r. (cells : Cells)
         → apply body.now (arguments cells registers.now args.now) ≡ Ok (held cells r.now)) }
     ensures live { IfSome result (λ r. (cells : Cells)
@@ -30,13 +31,13 @@ fn named<'a>(body: &Body, registers: &'a [Register], args: &[u32]) -> Option<&'a
         → HoldsLive cells r.now) }
 {
     match body.node() {
-        Node::Argument(k) => registers.get(*args.get(*k)? as usize),
+        Node::Argument(k) => registers.get(args.get(*k)?.get() as usize),
         _ => None,
     }
 }
 
 /// The scalar that a body names or is.
-fn scalar<'a>(body: &'a Body, registers: &'a [Register], args: &[u32]) -> Option<&'a Scalar>
+fn scalar<'a>(body: &'a Body, registers: &'a [Register], args: &[EqId]) -> Option<&'a Scalar>
     ensures { IfSome result (λ s. (cells : Cells)
         → apply body.now (arguments cells registers.now args.now) ≡ Ok (Some (Plain s.now))) }
 {
@@ -88,7 +89,7 @@ fn is_there<R: Reader>(
     aggregate: &Body,
     key: &Body,
     registers: &[Register],
-    args: &[u32],
+    args: &[EqId],
     reader: &R,
 ) -> Option<bool>
     requires { IsTypedAt (R.cells reader.now) registers.now args.now (Two Binary.Contains aggregate.now key.now) }
@@ -104,21 +105,108 @@ fn is_there<R: Reader>(
     }
 }
 
+/// What a map has at a key, where both are at hand.
+fn look_up<'a, R: Reader>(
+    map: &Body,
+    key: &Body,
+    registers: &[Register],
+    args: &[EqId],
+    reader: &'a R,
+) -> Option<Option<&'a Scalar>>
+    requires { IsTypedAt (R.cells reader.now) registers.now args.now (Two Binary.Get map.now key.now) }
+    ensures there { IfSome result (λ found. apply (Two Binary.Contains map.now key.now)
+        (arguments (R.cells reader.now) registers.now args.now) ≡ Ok (Some (Plain (Scalar.Bool (is_some found))))) }
+    ensures value { IfSome result (λ found. IfSome found (λ s. apply (Two Binary.Get map.now key.now)
+        (arguments (R.cells reader.now) registers.now args.now) ≡ Ok (Some (Plain s.now)))) }
+{
+    match (named(map, registers, args)?, scalar(key, registers, args)?) {
+        (Register::Aggregate(cell), key) => Some(reader.get(*cell, key)),
+        _ => None,
+    }
+}
+
 /// The value at a key of a map.
+#[inline(always)]
 fn found<'a, R: Reader>(
     map: &Body,
     key: &Body,
     registers: &[Register],
-    args: &[u32],
+    args: &[EqId],
     reader: &'a R,
 ) -> Option<&'a Scalar>
     requires { IsTypedAt (R.cells reader.now) registers.now args.now (Two Binary.Get map.now key.now) }
     ensures { IfSome result (λ s. apply (Two Binary.Get map.now key.now) (arguments (R.cells reader.now) registers.now args.now)
         ≡ Ok (Some (Plain s.now))) }
 {
-    match (named(map, registers, args)?, scalar(key, registers, args)?) {
-        (Register::Aggregate(cell), key) => reader.get(*cell, key),
-        _ => None,
+    look_up(map, key, registers, args, reader)?
+}
+
+/// Both bodies are the same argument.
+#[inline(always)]
+fn are_one(a: &Body, b: &Body) -> bool
+    ensures { IsTrue result → a.now ≡ b.now }
+{
+    match (a.node(), b.node()) {
+        (Node::Argument(j), Node::Argument(k)) => *j == *k,
+        _ => false,
+    }
+}
+
+/// A body asks whether a map has a key, both of them arguments.
+#[inline(always)]
+fn asks(condition: &Body, map: &Body, key: &Body) -> bool
+    ensures { IsTrue result → condition.now ≡ Two Binary.Contains map.now key.now }
+{
+    match condition.node() {
+        Node::Two(Binary::Contains, asked, at) => are_one(asked, map) && are_one(at, key),
+        _ => false,
+    }
+}
+
+/// What a map has at a key, where a choice asks for the key and then takes what is there. One search tells both.
+#[inline(always)]
+fn taken<'a, R: Reader>(
+    condition: &Body,
+    first: &Body,
+    registers: &[Register],
+    args: &[EqId],
+    reader: &'a R,
+) -> Option<Option<&'a Scalar>>
+    requires { IsTypedAt (R.cells reader.now) registers.now args.now first.now }
+    ensures there { IfSome result (λ found. apply condition.now (arguments (R.cells reader.now) registers.now args.now)
+        ≡ Ok (Some (Plain (Scalar.Bool (is_some found))))) }
+    ensures value { IfSome result (λ found. IfSome found (λ s. apply first.now (arguments (R.cells reader.now) registers.now args.now)
+        ≡ Ok (Some (Plain s.now)))) }
+{
+    let Node::Two(Binary::Get, map, key) = first.node() else {
+        return None;
+    };
+    if asks(condition, map, key) {
+        look_up(map, key, registers, args, reader)
+    } else {
+        None
+    }
+}
+
+/// The same, where a map has an Int there.
+#[inline(always)]
+fn number_taken<R: Reader>(
+    condition: &Body,
+    first: &Body,
+    registers: &[Register],
+    args: &[EqId],
+    reader: &R,
+) -> Option<Option<i64>>
+    requires { IsTypedAt (R.cells reader.now) registers.now args.now first.now }
+    ensures there { IfSome result (λ found. apply condition.now (arguments (R.cells reader.now) registers.now args.now)
+        ≡ Ok (Some (Plain (Scalar.Bool (is_some found))))) }
+    ensures value { IfSome result (λ found. IfSome found (λ n. apply first.now (arguments (R.cells reader.now) registers.now args.now)
+        ≡ Ok (Some (Plain (Scalar.Int n))))) }
+{
+    match taken(condition, first, registers, args, reader) {
+        Some(Some(found)) => Some(Some(number_in(found)?)),
+        Some(None) => Some(None),
+        None => None,
     }
 }
 
@@ -126,7 +214,7 @@ fn found<'a, R: Reader>(
 fn size<R: Reader>(
     aggregate: &Body,
     registers: &[Register],
-    args: &[u32],
+    args: &[EqId],
     reader: &R,
 ) -> Option<i64>
     requires { IsTypedAt (R.cells reader.now) registers.now args.now aggregate.now }
@@ -173,7 +261,7 @@ fn compared(o: Binary, a: i64, b: i64) -> Option<bool>
 }
 
 /// Whether two scalars are equal, or different, where a body asks that.
-fn equality(o: Binary, a: &Body, b: &Body, registers: &[Register], args: &[u32]) -> Option<bool>
+fn equality(o: Binary, a: &Body, b: &Body, registers: &[Register], args: &[EqId]) -> Option<bool>
     ensures { IfSome result (λ t. (cells : Cells)
         → apply (Two o a.now b.now) (arguments cells registers.now args.now) ≡ Ok (Some (Plain (Scalar.Bool t)))) }
 {
@@ -192,10 +280,15 @@ fn equality(o: Binary, a: &Body, b: &Body, registers: &[Register], args: &[u32])
     }
 }
 
-/// The Int that a body's value is.
+/// The Int that a body's value is, where it is at hand.
 #[cycle(quick)]
 #[inline(always)]
-fn number<R: Reader>(body: &Body, registers: &[Register], args: &[u32], reader: &R) -> Option<i64>
+pub fn number<R: Reader>(
+    body: &Body,
+    registers: &[Register],
+    args: &[EqId],
+    reader: &R,
+) -> Option<i64>
     requires { IsTypedAt (R.cells reader.now) registers.now args.now body.now }
     ensures { IfSome result (λ n. apply body.now (arguments (R.cells reader.now) registers.now args.now)
         ≡ Ok (Some (Plain (Scalar.Int n)))) }
@@ -212,7 +305,7 @@ fn number<R: Reader>(body: &Body, registers: &[Register], args: &[u32], reader: 
 fn number_of<R: Reader>(
     body: &Body,
     registers: &[Register],
-    args: &[u32],
+    args: &[EqId],
     reader: &R,
 ) -> Option<i64>
     requires { IsTypedAt (R.cells reader.now) registers.now args.now body.now }
@@ -226,22 +319,110 @@ fn number_of<R: Reader>(
             let b = number(b, registers, args, reader)?;
             calculated(*o, a, b)
         }
-        Node::Choice(c, a, b) => {
+        Node::Choice(_, _, _) => number_chosen(body, registers, args, reader),
+        Node::One(Unary::Size, aggregate) => size(aggregate, registers, args, reader),
+        _ => None,
+    }
+}
+
+/// The Int of a choice's first body, where the choice asks for the key of a map that the body's first operand takes.
+#[cycle(quick)]
+#[inline(always)]
+fn number_before<R: Reader>(
+    first: &Body,
+    condition: &Body,
+    registers: &[Register],
+    args: &[EqId],
+    reader: &R,
+) -> Option<Option<i64>>
+    requires { IsTypedAt (R.cells reader.now) registers.now args.now first.now }
+    ensures there { IfSome result (λ found. apply condition.now (arguments (R.cells reader.now) registers.now args.now)
+        ≡ Ok (Some (Plain (Scalar.Bool (is_some found))))) }
+    ensures value { IfSome result (λ found. IfSome found (λ n. apply first.now (arguments (R.cells reader.now) registers.now args.now)
+        ≡ Ok (Some (Plain (Scalar.Int n))))) }
+{
+    match first.node() {
+        Node::Two(o, a, b) => match number_taken(condition, a, registers, args, reader) {
+            Some(Some(a)) => {
+                let b = number(b, registers, args, reader)?;
+                Some(Some(calculated(*o, a, b)?))
+            }
+            Some(None) => Some(None),
+            None => None,
+        },
+        _ => None,
+    }
+}
+
+/// The Int of a choice's first body, where the choice asks for the key of a map that this body or an operand of it takes. Within, `None`
+/// says that the key is not there.
+#[cycle(quick)]
+#[inline(always)]
+fn number_first<R: Reader>(
+    first: &Body,
+    condition: &Body,
+    registers: &[Register],
+    args: &[EqId],
+    reader: &R,
+) -> Option<Option<i64>>
+    requires { IsTypedAt (R.cells reader.now) registers.now args.now first.now }
+    ensures there { IfSome result (λ found. apply condition.now (arguments (R.cells reader.now) registers.now args.now)
+        ≡ Ok (Some (Plain (Scalar.Bool (is_some found))))) }
+    ensures value { IfSome result (λ found. IfSome found (λ n. apply first.now (arguments (R.cells reader.now) registers.now args.now)
+        ≡ Ok (Some (Plain (Scalar.Int n))))) }
+{
+    match first.node() {
+        Node::Two(Binary::Get, _, _) => number_taken(condition, first, registers, args, reader),
+        Node::Two(o, a, b) => match number_taken(condition, b, registers, args, reader) {
+            Some(Some(b)) => {
+                let a = number(a, registers, args, reader)?;
+                Some(Some(calculated(*o, a, b)?))
+            }
+            Some(None) => Some(None),
+            None => number_before(first, condition, registers, args, reader),
+        },
+        _ => None,
+    }
+}
+
+/// The Int that is the value of a choice.
+#[cycle(quick)]
+#[inline(always)]
+fn number_chosen<R: Reader>(
+    body: &Body,
+    registers: &[Register],
+    args: &[EqId],
+    reader: &R,
+) -> Option<i64>
+    requires { IsTypedAt (R.cells reader.now) registers.now args.now body.now }
+    ensures { IfSome result (λ n. apply body.now (arguments (R.cells reader.now) registers.now args.now)
+        ≡ Ok (Some (Plain (Scalar.Int n)))) }
+{
+    let Node::Choice(c, a, b) = body.node() else {
+        return None;
+    };
+    match number_first(a, c, registers, args, reader) {
+        Some(Some(number)) => Some(number),
+        Some(None) => number(b, registers, args, reader),
+        None => {
             if truth(c, registers, args, reader)? {
                 number(a, registers, args, reader)
             } else {
                 number(b, registers, args, reader)
             }
         }
-        Node::One(Unary::Size, aggregate) => size(aggregate, registers, args, reader),
-        _ => None,
     }
 }
 
-/// The Bool that a body's value is.
+/// The Bool that a body's value is, where it is at hand.
 #[cycle(quick)]
 #[inline(always)]
-fn truth<R: Reader>(body: &Body, registers: &[Register], args: &[u32], reader: &R) -> Option<bool>
+pub fn truth<R: Reader>(
+    body: &Body,
+    registers: &[Register],
+    args: &[EqId],
+    reader: &R,
+) -> Option<bool>
     requires { IsTypedAt (R.cells reader.now) registers.now args.now body.now }
     ensures { IfSome result (λ b. apply body.now (arguments (R.cells reader.now) registers.now args.now)
         ≡ Ok (Some (Plain (Scalar.Bool b)))) }
@@ -258,7 +439,7 @@ fn truth<R: Reader>(body: &Body, registers: &[Register], args: &[u32], reader: &
 fn truth_of<R: Reader>(
     body: &Body,
     registers: &[Register],
-    args: &[u32],
+    args: &[EqId],
     reader: &R,
 ) -> Option<bool>
     requires { IsTypedAt (R.cells reader.now) registers.now args.now body.now }
@@ -269,6 +450,7 @@ fn truth_of<R: Reader>(
         Node::Two(Binary::Contains, aggregate, key) => {
             is_there(aggregate, key, registers, args, reader)
         }
+        Node::Two(Binary::Get, map, key) => truth_in(found(map, key, registers, args, reader)?),
         Node::Two(Binary::And, a, b) => {
             if truth(a, registers, args, reader)? {
                 truth(b, registers, args, reader)
@@ -303,13 +485,13 @@ fn truth_of<R: Reader>(
     }
 }
 
-/// The value of a choice, where it is no text and at hand.
+/// The value of a choice that does not just take what it asks for.
 #[cycle(choice)]
-#[inline(never)]
-fn chosen<R: Reader>(
+#[inline(always)]
+fn one_of<R: Reader>(
     body: &Body,
     registers: &[Register],
-    args: &[u32],
+    args: &[EqId],
     reader: &R,
 ) -> Option<Scalar>
     requires { IsTypedAt (R.cells reader.now) registers.now args.now body.now }
@@ -318,10 +500,38 @@ fn chosen<R: Reader>(
     let Node::Choice(c, a, b) = body.node() else {
         return None;
     };
-    if truth(c, registers, args, reader)? {
-        at_hand(a, registers, args, reader)
-    } else {
-        at_hand(b, registers, args, reader)
+    match number_first(a, c, registers, args, reader) {
+        Some(Some(number)) => Some(Scalar::Int(number)),
+        Some(None) => at_hand(b, registers, args, reader),
+        None => {
+            if truth(c, registers, args, reader)? {
+                at_hand(a, registers, args, reader)
+            } else {
+                at_hand(b, registers, args, reader)
+            }
+        }
+    }
+}
+
+/// The value of a choice, where it is no text and at hand.
+#[cycle(choice)]
+#[inline(never)]
+fn chosen<R: Reader>(
+    body: &Body,
+    registers: &[Register],
+    args: &[EqId],
+    reader: &R,
+) -> Option<Scalar>
+    requires { IsTypedAt (R.cells reader.now) registers.now args.now body.now }
+    ensures { IfSome result (λ s. apply body.now (arguments (R.cells reader.now) registers.now args.now) ≡ Ok (Some (Plain s))) }
+{
+    let Node::Choice(c, a, b) = body.node() else {
+        return None;
+    };
+    match taken(c, a, registers, args, reader) {
+        Some(Some(found)) => without_memory(found),
+        Some(None) => at_hand(b, registers, args, reader),
+        None => one_of(body, registers, args, reader),
     }
 }
 
@@ -331,15 +541,18 @@ fn chosen<R: Reader>(
 pub(crate) fn at_hand<R: Reader>(
     body: &Body,
     registers: &[Register],
-    args: &[u32],
+    args: &[EqId],
     reader: &R,
 ) -> Option<Scalar>
     requires { IsTypedAt (R.cells reader.now) registers.now args.now body.now }
     ensures { IfSome result (λ s. apply body.now (arguments (R.cells reader.now) registers.now args.now) ≡ Ok (Some (Plain s))) }
 {
     match body.node() {
+        Node::Two(Binary::Get, map, key) => without_memory(found(
+            map, key, registers, args, reader,
+        )?),
         Node::Two(o, _, _) => {
-            if is_arithmetic(*o) || matches!(*o, Binary::Get) {
+            if is_arithmetic(*o) {
                 Some(Scalar::Int(number_of(body, registers, args, reader)?))
             } else {
                 Some(Scalar::Bool(truth_of(body, registers, args, reader)?))

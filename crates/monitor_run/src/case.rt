@@ -27,17 +27,16 @@ use crate::machine::{empty, put};
 use crate::update::{UpdateRun, updated};
 use aggregate_store::store::Store;
 use body_eval::eval::{EvalFault, eval};
+use body_eval::quick::{number, truth};
 use body_eval::register::Register;
 use cell_reader::reader::Reader;
 use flat_core::equation::{Equation, Op};
 use flat_core::lists::{Args, EqSet};
 use lift_func::body::{Body, Node};
-use smallvec::SmallVec;
 use std::alloc::Global;
 use tsl_value::ids::EqId;
-use tsl_value::memory::NoMemory;
 use tsl_value::operation::{Binary, Update};
-use tsl_value::scalar::{Scalar, ValueType};
+use tsl_value::scalar::{Scalar, ScalarType, ValueType};
 use tsl_value::time::Time;
 
 /// The register of an argument.
@@ -95,17 +94,6 @@ fn do_count(strict: bool, ids: &[EqId], registers: &[Register]) -> bool
     }
 }
 
-/// The numbers of equations. Up to four lie in line, as arguments do.
-fn numbers(alloc: Global, ids: &[EqId]) -> Result<SmallVec<u32, 4>, NoMemory>
-    ensures { IfOk result (λ v. v.items ≡ ids.now) }
-{
-    let mut numbers = SmallVec::new(alloc);
-    for id in ids {
-        numbers.push(id.get())?;
-    }
-    Ok(numbers)
-}
-
 /// The argument that a body is.
 fn named(body: &Body, args: &Args) -> Option<EqId>
     ensures { IfSome result (IsNamed body.now args.now) }
@@ -135,6 +123,30 @@ fn asked(body: &Body, args: &Args, registers: &[Register], store: &Store) -> Opt
     }
 }
 
+/// The value of a body, where it is a number or a truth at hand. The type says which of them it may be. `None` says nothing.
+#[inline(always)]
+fn at_hand(
+    of: ValueType,
+    body: &Body,
+    args: &Args,
+    registers: &[Register],
+    store: &Store,
+) -> Option<Scalar>
+    requires { IsEvaluable store.now.cells registers.now args.now body.now }
+    ensures { IfSome result (λ s. apply body.now (map (value_at store.now.cells registers.now) args.now) ≡ Ok (Some (Plain s))) }
+{
+    let ids = args.ids();
+    match of {
+        ValueType::Scalar(ScalarType::Int) => Some(Scalar::Int(number(
+            body, registers, ids, store,
+        )?)),
+        ValueType::Scalar(ScalarType::Bool) => Some(Scalar::Bool(truth(
+            body, registers, ids, store,
+        )?)),
+        _ => None,
+    }
+}
+
 /// The value that a body has, as a register.
 fn evaluated(
     alloc: Global,
@@ -147,8 +159,7 @@ fn evaluated(
     ensures value { IsHeldValue store.now.cells result (apply body.now (map (value_at store.now.cells registers.now) args.now)) }
     ensures bare { IfOk result (λ r. IsBare r) }
 {
-    let numbers = numbers(alloc, args.ids())?;
-    match eval(alloc, body, registers, &numbers, store)? {
+    match eval(alloc, body, registers, args.ids(), store)? {
         Some(scalar) => Ok(Register::Scalar(scalar)),
         None => Ok(Register::Empty),
     }
@@ -157,6 +168,7 @@ fn evaluated(
 /// Puts the value of a lifted body into a place: where all its arguments are there, or of a body of options where one of them is.
 fn put_lifted(
     alloc: Global,
+    of: ValueType,
     body: &Body,
     strict: bool,
     args: &Args,
@@ -178,6 +190,10 @@ fn put_lifted(
     }
     if let Some(is_there) = asked(body, args, registers, store) {
         put(Register::Scalar(Scalar::Bool(is_there)), place, registers);
+        return Ok(());
+    }
+    if let Some(value) = at_hand(of, body, args, registers, store) {
+        put(Register::Scalar(value), place, registers);
         return Ok(());
     }
     let value = evaluated(alloc, body, args, registers, store)?;
@@ -303,7 +319,7 @@ fn put_plain(
         Op::Nil => put_value(Register::Empty, place, registers),
         Op::Unit => put_value(unit_if(time.get() == 0), place, registers),
         Op::Lift { body, strict } => put_lifted(
-            alloc, body, *strict, args, place, registers, store,
+            alloc, e.of, body, *strict, args, place, registers, store,
         ),
         Op::Any => put_value(
             unit_if(is_one_there(args.ids(), registers)),

@@ -17,7 +17,7 @@ use cell_reader::reader::Reader;
 use lift_func::body::Body;
 use std::alloc::Global;
 use tsl_value::bytes::Bytes;
-use tsl_value::ids::Handle;
+use tsl_value::ids::{EqId, Handle};
 use tsl_value::memory::NoMemory;
 use tsl_value::print::print_scalar;
 use tsl_value::scalar::Scalar;
@@ -104,12 +104,13 @@ fn registers(alloc: Global, values: &[Option<Value>]) -> Result<Vec<Register>, N
 }
 
 /// So many numbers from 0 on.
-fn numbers(alloc: Global, count: u32) -> Result<Vec<u32>, NoMemory>
+fn numbers(alloc: Global, count: u32) -> Result<Vec<EqId>, NoMemory>
     ensures { IfOk result (λ v. v.items ≡ numbers_from 0 count) }
 {
     let mut numbers = Vec::new(alloc);
     for number in 0..count {
-        numbers.push(number)?;
+        let id = EqId::new(number);
+        numbers.push(id)?;
     }
     Ok(numbers)
 }

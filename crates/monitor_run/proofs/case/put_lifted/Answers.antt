@@ -14,3 +14,9 @@ evaluated-requires c =
     let cells = c.args.store.now.cells in
     let registers = c.args.registers.now in
     c.requires.typed (sym (c.do_count.ensures cells ∙ ap (λ xs. counts c.args.strict (map (value_at cells registers) xs)) c.ids.ensures) ∙ c.if-not-do_count.false)
+
+pub at_hand-requires : goal.at_hand-requires
+at_hand-requires c =
+    let cells = c.args.store.now.cells in
+    let registers = c.args.registers.now in
+    c.requires.typed (sym (c.do_count.ensures cells ∙ ap (λ xs. counts c.args.strict (map (value_at cells registers) xs)) c.ids.ensures) ∙ c.if-not-do_count.false)
