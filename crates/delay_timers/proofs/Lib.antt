@@ -1,2 +1,4 @@
 pub mod TournamentLemmas
 pub mod TimesLemmas
+pub mod ChangeLemmas
+pub mod ApartLemmas

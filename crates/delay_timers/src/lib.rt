@@ -1,5 +1,7 @@
 //! The pending delays of a monitor.
 #![tactic(auto)]
 
+mod apart;
 pub mod timers;
+mod tournament;
 mod tree;

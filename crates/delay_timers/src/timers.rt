@@ -1,11 +1,12 @@
 // The pending delays, which contracts see as a map from delays to times.
 
-ghost use Rattle.std.specs.Prelude.{◌≡◌, ◌+◌, ◌<◌, IfOk, IfNone, IfSome, MatchOption};
+ghost use Rattle.std.specs.Prelude.{◌≡◌, ◌+◌, ◌<◌, IfOk, IfNone, IfSome, IsTrue, MatchOption};
 ghost use Rattle.std.specs.FinMap as map;
 ghost use Rattle.delay_timers.specs.inner.Pending.{AreBelowCapacity, IsLeastTime, NoneIsDueAt, IsLeastDueAt};
-ghost use Rattle.delay_timers.specs.inner.Tournament.{IsFirstDue};
 
-use crate::tree::{Due, change_leaf, first_leaf_at};
+use crate::apart::{arrange, other_than, take_other};
+use crate::tournament::Tournament;
+use crate::tree::Due;
 use std::alloc::Global;
 use std::cmp::Ordering;
 use std::marker::Model;
@@ -13,25 +14,30 @@ use tsl_value::memory::NoMemory;
 use tsl_value::time::Time;
 
 /// The delays that are pending, each with the time at which it is due. Delays are numbers below a capacity.
+///
+/// The one that is due first stands apart from the tournament where it is known. So where one delay alone is pending, no call touches the
+/// tournament.
 #[derive(Drop)]
 pub struct Timers {
-    delays: usize,
-    nodes: Vec<Option<Due>>,
+    // The delay that is due first, where it is known. The tournament does not have it.
+    first: Option<Due>,
+    // Where this is set, the tournament has none.
+    is_clear: bool,
+    others: Tournament,
 }
 
 impl Model for Timers {
-    ghost use Rattle.std.specs.Prelude.{drop};
     ghost use Rattle.delay_timers.specs.inner.Pending.{Pending, pending_code};
 
     ghost Value = { Pending };
 
     ghost coded = { pending_code };
 
-    ghost use Rattle.delay_timers.specs.inner.Tournament.{IsTree, times_of};
+    ghost use Rattle.delay_timers.specs.inner.Apart.{IsApart, with_others};
 
-    ghost view = { λ t. record { capacity = t.delays; times = times_of (drop t.delays t.nodes.items) } };
+    ghost view = { λ t. with_others t.first t.others };
 
-    ghost invariant = { λ t. IsTree t.nodes.items t.delays };
+    ghost invariant = { λ t. IsApart t.first t.is_clear t.others };
 }
 
 impl Timers {
@@ -39,9 +45,11 @@ impl Timers {
     pub fn with_capacity(alloc: Global, delays: u32) -> Result<Timers, NoMemory>
         ensures { IfOk result (λ t. t ≡ record { capacity = delays; times = map.empty }) }
     {
-        let delays = delays as usize;
-        let nodes = vec![in alloc; None; 2 * delays]?;
-        Ok(Timers { delays, nodes })
+        Ok(Timers {
+            first: None,
+            is_clear: true,
+            others: Tournament::with_capacity(alloc, delays)?,
+        })
     }
 
     /// Lets a delay be due at this time and at no other.
@@ -50,12 +58,12 @@ impl Timers {
         ensures { self.new ≡ record self.old { times = map.insert self.old.times delay at } }
     {
         let due = Due { time: at, delay };
-        change_leaf(
-            self.nodes.as_mut_slice(),
-            self.delays,
-            delay as usize,
-            Some(due),
-        );
+        if self.is_clear && other_than(self.first, delay).is_none() {
+            self.first = Some(due);
+        } else {
+            self.first = arrange(self.first, &mut self.others, due);
+            self.is_clear = self.others.is_empty();
+        }
     }
 
     /// Lets a delay not be pending.
@@ -63,7 +71,11 @@ impl Timers {
         requires { delay < self.old.capacity }
         ensures { self.new ≡ record self.old { times = map.remove self.old.times delay } }
     {
-        change_leaf(self.nodes.as_mut_slice(), self.delays, delay as usize, None);
+        self.first = other_than(self.first, delay);
+        if !self.is_clear {
+            self.others.cancel(delay);
+            self.is_clear = self.others.is_empty();
+        }
     }
 
     /// When a delay is due. `None` exactly where it is not pending.
@@ -71,9 +83,15 @@ impl Timers {
         requires { delay < self.now.capacity }
         ensures { result ≡ map.get self.now.times delay }
     {
-        match self.nodes[self.delays + delay as usize] {
-            Some(due) => Some(due.time),
-            None => None,
+        match self.first {
+            Some(first) => {
+                if first.delay == delay {
+                    Some(first.time)
+                } else {
+                    self.others.at(delay)
+                }
+            }
+            None => self.others.at(delay),
         }
     }
 
@@ -82,8 +100,13 @@ impl Timers {
         ensures least { MatchOption result (self.now.times ≡ map.empty) (IsLeastTime self.now.times) }
         ensures bounded { AreBelowCapacity self.now }
     {
-        let first = self.first()?;
-        Some(first.time)
+        match self.first {
+            Some(first) => Some(first.time),
+            None => {
+                let first = self.others.first()?;
+                Some(first.time)
+            }
+        }
     }
 
     /// Takes out the least delay that is due at just this time. `None` exactly where there is none. It is fast where no
@@ -94,33 +117,16 @@ impl Timers {
         ensures none { IfNone result (self.new ≡ self.old) }
         ensures bounded { IfSome result (λ delay. delay < self.old.capacity) }
     {
-        let delay = self.first_at(at)?;
-        self.cancel(delay);
-        Some(delay)
-    }
-
-    /// The delay that is due first of all.
-    fn first(&self) -> Option<Due>
-        ensures first { MatchOption result (self.now.times ≡ map.empty) (IsFirstDue self.now.times) }
-        ensures bounded { AreBelowCapacity self.now }
-    {
-        if self.delays == 0 {
-            None
-        } else {
-            self.nodes[1]
-        }
-    }
-
-    /// The least delay that is due at just this time.
-    fn first_at(&self, at: Time) -> Option<u32>
-        ensures due { MatchOption result (NoneIsDueAt self.now.times at) (IsLeastDueAt self.now.times at) }
-        ensures bounded { IfSome result (λ delay. delay < self.now.capacity) }
-    {
-        let first = self.first()?;
-        match first.time.cmp(&at) {
-            Ordering::Equal => Some(first.delay),
-            Ordering::Greater => None,
-            Ordering::Less => first_leaf_at(self.nodes.as_slice(), self.delays, at),
+        match self.first {
+            Some(first) => match first.time.cmp(&at) {
+                Ordering::Equal => {
+                    self.first = None;
+                    Some(first.delay)
+                }
+                Ordering::Greater => None,
+                Ordering::Less => take_other(&mut self.others, &mut self.is_clear, at),
+            },
+            None => take_other(&mut self.others, &mut self.is_clear, at),
         }
     }
 }

@@ -1,8 +1,8 @@
 // The tree that finds the delay which is due first, as a list of slots.
 
-ghost use Rattle.std.specs.Prelude.{◌≡◌, ◌≢◌, ◌+◌, ◌<◌, ◌≤◌, ℕ, length, IsTrue, None, MatchOption};
+ghost use Rattle.std.specs.Prelude.{◌≡◌, ◌≢◌, ◌+◌, ◌<◌, ◌≤◌, ℕ, length, IsTrue, IsFalse, None, MatchOption};
 ghost use Rattle.std.specs.Option.{option_map};
-ghost use Rattle.delay_timers.specs.inner.Tournament.{slot, IsOf, IsUpTo, IsFirstOf, IsTree, IsTreeBut, SameFrom, ChangesLeaf};
+ghost use Rattle.delay_timers.specs.inner.Tournament.{slot, ComesFirst, IsOf, IsUpTo, IsFirstOf, IsTree, IsTreeBut, SameFrom, ChangesLeaf};
 ghost use Rattle.delay_timers.specs.inner.Tournament.{IsFirstLeafAt};
 ghost use Rattle.delay_timers.specs.inner.Tournament.{NoLeafAt};
 
@@ -24,6 +24,14 @@ fn first_of(a: Option<Due>, b: Option<Due>) -> Option<Due>
         (Some(left), None) => Some(left),
         (None, _) => b,
     }
+}
+
+/// One comes before another.
+pub fn comes_first(a: &Due, b: &Due) -> bool
+    ensures yes { IsTrue result → ComesFirst a.now b.now }
+    ensures no { IsFalse result → ComesFirst b.now a.now }
+{
+    a <= b
 }
 
 /// Makes this slot and each one above it hold the first of its children again.

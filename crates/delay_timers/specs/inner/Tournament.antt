@@ -54,10 +54,14 @@ pub record IsTreeBut (nodes : List (Option Due)) (delays but : ℕ) : Type 0 whe
 abbrev pub SameFrom : ℕ → List (Option Due) → List (Option Due) → Type 0
 SameFrom from nodes others = (k : ℕ) → from ≤ k → slot nodes k ≡ slot others k
 
--- this is due, and all that is due comes no earlier
+-- none that is due comes before this
+abbrev pub IsBeforeAll : Due → Times → Type 0
+IsBeforeAll due times = (delay time : ℕ) → map.get times delay ≡ Some time → ComesFirst due (record { time = time; delay = delay })
+
+-- this is due, and none that is due comes before it
 pub record IsFirstDue (times : Times) (due : Due) : Type 0 where
   pub is_due : map.get times due.delay ≡ Some due.time
-  pub first : (delay time : ℕ) → map.get times delay ≡ Some time → ComesFirst due (record { time = time; delay = delay })
+  pub first : IsBeforeAll due times
 
 -- the leaf of one delay holds this, and each other leaf what it held
 pub record ChangesLeaf (old new : List (Option Due)) (delays delay : ℕ) (due : Option Due) : Type 0 where

@@ -6,6 +6,7 @@ use Rattle.tsl_world.specs.declared.outside.Did.TheVariants.{NotOpened}
 use Rattle.tsl_world.specs.declared.outside.Slot.TheVariants.{Trace}
 use Rattle.tsl_world.specs.Runs.{Runs}
 use Rattle.tsl_world.specs.Standing.{with_slot}
+use Rattle.tsl_world.specs.World.{RoseBy}
 use Rattle.tsl_world.proofs.Runs.{grows_called, grows_none}
 use Rattle.why_run.specs.Effects.{Asks, AsksTrace, HasAsked, idle, no_trace}
 use Rattle.why_run.proofs.Asking.{of_same, opened_asks, opened_ends}
@@ -19,6 +20,12 @@ pub returns-in_err-open-clause-calls : goal.returns-in_err-open-clause-calls
 returns-in_err-open-clause-calls g c =
     grows_called g.W.World.told g.W.World.journal c.args.world.now c.open.new.self (NotOpened Trace c.args.trace.now) (AsksTrace c.args.trace.now c.args.code.now.system c.args.options c.args.question)
     c.open.ensures.told c.in_err-open.ensures.journal no_trace
+
+pub returns-clause-outside : goal.returns-clause-outside
+returns-clause-outside g c = λ fails. subst (λ n. RoseBy 1 n (g.W.World.faults c.read_on.new.world)) c.in_ok-open.ensures.cause.ok (c.read_on.ensures.outside fails)
+
+pub returns-clause-memory : goal.returns-clause-memory
+returns-clause-memory g c = λ fails. c.read_on.ensures.memory fails ∙ c.in_ok-open.ensures.cause.ok
 
 pub returns-clause-calls : goal.returns-clause-calls
 returns-clause-calls g c =

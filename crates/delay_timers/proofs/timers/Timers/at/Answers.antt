@@ -1,30 +1,13 @@
-use Rattle.std.proofs.Common.{◌≡◌, ◌+◌, ◌<◌, List, Option, Some, None, length, sym, subst, ap, ◌∙◌, arith}
-use Rattle.std.proofs.lemmas.List.{get_or_read}
-use Rattle.std.specs.Option.{option_map}
-use Rattle.std.specs.FinMap as map
-use Rattle.delay_timers.specs.declared.tree.Due.{Due}
-use Rattle.delay_timers.specs.inner.Pending.{Pending}
-use Rattle.delay_timers.proofs.TimesLemmas.{read_time}
+use Rattle.std.proofs.Common.{◌∙◌}
+use Rattle.delay_timers.proofs.ApartLemmas.{at_first, at_other}
 use Rattle.delay_timers.proofs.timers.Timers.at.Goals as goal
 
--- the leaf is inside: there are twice as many slots as delays
-pub index-requires : goal.index-requires
-index-requires c =
-    let below : c.args.delay < c.self.inside.delays = subst (λ (p : Pending). c.args.delay < p.capacity) (sym c.self.view_is) c.requires in
-    omega (arith, c.self.invariant.room, c.self.inside.nodes.ok.0, below)
+pub returns-then-first-delay : goal.returns-then-first-delay
+returns-then-first-delay c =
+    let held = c.self.inside in
+    at_first held.first held.others c.args.self.now c.self.view_is c.self.invariant.stands c.in-Some.first c.in-Some.is c.args.delay c.if-first-delay.true
 
-pub returns-in-Some : goal.returns-in-Some
-returns-in-Some c =
-    let P : Pending → Type 0 = λ p. Some c.in-Some.due.time ≡ map.get p.times c.args.delay in
-    let below : c.args.delay < c.self.inside.delays = subst (λ (p : Pending). c.args.delay < p.capacity) (sym c.self.view_is) c.requires in
-    subst P c.self.view_is
-    (ap (option_map (λ (due : Due). due.time)) (sym c.in-Some.is)
-    ∙ read_time c.self.inside.nodes.items c.self.inside.delays c.args.delay c.index.result.now c.self.invariant below c.index.ensures)
-
-pub returns-in-None : goal.returns-in-None
-returns-in-None c =
-    let P : Pending → Type 0 = λ p. None ≡ map.get p.times c.args.delay in
-    let below : c.args.delay < c.self.inside.delays = subst (λ (p : Pending). c.args.delay < p.capacity) (sym c.self.view_is) c.requires in
-    subst P c.self.view_is
-    (ap (option_map (λ (due : Due). due.time)) (sym c.in-None.is)
-    ∙ read_time c.self.inside.nodes.items c.self.inside.delays c.args.delay c.index.result.now c.self.invariant below c.index.ensures)
+pub returns-else-first-delay : goal.returns-else-first-delay
+returns-else-first-delay c =
+    let held = c.self.inside in
+    c.at.ensures ∙ at_other held.first held.others c.args.self.now c.self.view_is c.self.invariant.stands c.in-Some.first c.in-Some.is c.args.delay c.if-first-delay.false

@@ -1,24 +1,32 @@
-use Rattle.std.proofs.Common.{◌≡◌, List, Option, None, drop, length, ap, subst, sym, ◌∙◌}
-use Rattle.std.proofs.lemmas.List.{with_items_is}
-use Rattle.std.specs.FinMap as map
-use Rattle.delay_timers.specs.declared.tree.Due.{Due}
-use Rattle.delay_timers.specs.inner.Pending.{Pending}
-use Rattle.delay_timers.specs.inner.Tournament.{ChangesLeaf, times_of}
-use Rattle.delay_timers.proofs.TimesLemmas.{is_cancelled}
+use Rattle.delay_timers.proofs.ApartLemmas.{is_cancelled, stands_cancelled, gone_of_none}
 use Rattle.delay_timers.proofs.timers.Timers.cancel.Goals as goal
 
-pub returns : goal.returns
-returns c =
-    let delays = c.self.inside.delays in
-    let nodes = c.self.inside.nodes in
-    let new = c.change_leaf.new.nodes in
-    let shown : List (Option Due) → Pending = λ ns. record { capacity = delays; times = times_of (drop delays ns) } in
-    let P : Pending → Type 0 = λ p.
-    let want : Pending = record { capacity = p.capacity; times = map.remove p.times c.args.delay } in
-    shown new ≡ want in
-    let Q : List (Option Due) → Type 0 = λ ns. ChangesLeaf ns new delays c.args.delay None in
-    let room : length new ≡ nodes.len = c.change_leaf.ensures.tree.room ∙ sym c.self.invariant.room ∙ sym nodes.ok.0 in
-    ap shown (with_items_is nodes new room)
-    ∙ subst P c.self.view_is
-    (ap (λ times. let p : Pending = record { capacity = delays; times = times } in p)
-    (is_cancelled nodes.items new delays c.args.delay (subst Q c.as_mut_slice.ensures.value c.change_leaf.ensures.leaves)))
+pub invariant_of-self : goal.invariant_of-self
+invariant_of-self c =
+    let held = c.self.inside in
+    record {
+      stands = stands_cancelled held.first held.others c.args.self.now c.self.view_is c.self.invariant.stands c.args.delay c.other_than-self-inside.result c.cancel.new.self c.other_than-self-inside.ensures c.cancel.ensures;
+      clear = c.is_empty-self-inside.ensures.empty;
+      bounded = c.is_empty-self-inside.ensures.bounded;
+    }
+
+pub returns-then-not-self : goal.returns-then-not-self
+returns-then-not-self c =
+    let held = c.self.inside in
+    is_cancelled held.first held.others c.args.self.now c.self.view_is c.self.invariant.stands c.args.delay c.other_than-self-inside.result c.cancel.new.self c.other_than-self-inside.ensures c.cancel.ensures
+
+pub invariant_of-self-else-not-self : goal.invariant_of-self-else-not-self
+invariant_of-self-else-not-self c =
+    let held = c.self.inside in
+    record {
+      stands = stands_cancelled held.first held.others c.args.self.now c.self.view_is c.self.invariant.stands c.args.delay c.other_than-self-inside.result held.others c.other_than-self-inside.ensures
+          (gone_of_none held.others c.args.delay (c.self.invariant.clear c.if-not-self.false));
+      clear = c.self.invariant.clear;
+      bounded = c.self.invariant.bounded;
+    }
+
+pub returns-else-not-self : goal.returns-else-not-self
+returns-else-not-self c =
+    let held = c.self.inside in
+    is_cancelled held.first held.others c.args.self.now c.self.view_is c.self.invariant.stands c.args.delay c.other_than-self-inside.result held.others c.other_than-self-inside.ensures
+    (gone_of_none held.others c.args.delay (c.self.invariant.clear c.if-not-self.false))

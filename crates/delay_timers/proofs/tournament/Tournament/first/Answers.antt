@@ -5,7 +5,7 @@ use Rattle.std.specs.FinMap as map
 use Rattle.delay_timers.specs.inner.Pending.{Pending, AreBelowCapacity}
 use Rattle.delay_timers.specs.inner.Tournament.{times_of, IsFirstDue}
 use Rattle.delay_timers.proofs.TimesLemmas.{root_is_first, all_below}
-use Rattle.delay_timers.proofs.timers.Timers.first.Goals as goal
+use Rattle.delay_timers.proofs.tournament.Tournament.first.Goals as goal
 
 pub returns-else-self-eq0-clause-first : goal.returns-else-self-eq0-clause-first
 returns-else-self-eq0-clause-first c =

@@ -4,7 +4,7 @@ use Rattle.delay_timers.specs.declared.tree.Due.{Due}
 use Rattle.delay_timers.specs.inner.Pending.{Pending, NoneIsDueAt, IsLeastDueAt}
 use Rattle.delay_timers.specs.inner.Tournament.{NoLeafAt, IsFirstLeafAt}
 use Rattle.delay_timers.proofs.TimesLemmas.{none_due_of_none, leaf_is_due}
-use Rattle.delay_timers.proofs.timers.Timers.first_at.Goals as goal
+use Rattle.delay_timers.proofs.tournament.Tournament.first_at.Goals as goal
 
 pub returns-in_err-first-clause-due : goal.returns-in_err-first-clause-due
 returns-in_err-first-clause-due c =
