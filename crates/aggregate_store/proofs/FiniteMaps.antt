@@ -1,12 +1,11 @@
 -- The finite maps and sets that ordered collections hold.
 use Rattle.std.proofs.Common.{◌≡◌, ◌+◌, Bool, true, false, ◌||◌, ◌&&◌, not, cond, List, [], ◌∷◌, Some, None, map, length, refl, sym, ap, subst, ◌∙◌, arith}
-use Rattle.std.specs.BTreeMap as tree
-use Rattle.std.specs.BTreeMap.{BTreeMap}
+use Rattle.std.specs.BTreeMap.{is_at}
 use Rattle.std.specs.FinMap as finite_map
 use Rattle.std.specs.FinMap.{FinMap, IsAntisymmetric}
 use Rattle.std.specs.FinSet as set
 use Rattle.std.specs.Cmp.{Equal-is, IsTotalOrder, eq_by_cmp_equiv}
-use Rattle.std.specs.Map.{keys_of}
+use Rattle.std.specs.Map.{keys_of, lookup}
 use Rattle.std.specs.List.{list_any, AllByRecursion}
 use Rattle.std.specs.List.Sorted.{IsStrictlySortedBy}
 use Rattle.std.specs.Ordering.{eq_by_cmp}
@@ -99,14 +98,14 @@ module _ {K : Type 0} {R : K → K → Ordering} (o : IsTotalOrder R) where
 
   -- ---- what the calls of ordered collections do
 
-  module _ {X : Type 0} (same : IsAntisymmetric R) (m n : BTreeMap K X) (k : K) where
-    pub table-insert : (v : X) → tree.Updates R m n k (Some v) → finite_map.from_entries {R = R} n.entries ≡ finite_map.insert (finite_map.from_entries m.entries) k v
-    table-insert v updates = is_insert o same _ _ k v (λ q.
-        get-of_entries o n.entries q ∙ updates.0 q ∙ ap (cond (eq_by_cmp R k q) (Some v)) (sym (get-of_entries o m.entries q)))
+  module _ {X : Type 0} (same : IsAntisymmetric R) (old new : List (K × X)) (k : K) where
+    pub table-insert : (v : X) → ((q : K) → lookup (is_at (R q)) new ≡ cond (eq_by_cmp R k q) (Some v) (lookup (is_at (R q)) old)) → finite_map.from_entries {R = R} new ≡ finite_map.insert (finite_map.from_entries old) k v
+    table-insert v is = is_insert o same _ _ k v (λ q.
+        get-of_entries o new q ∙ is q ∙ ap (cond (eq_by_cmp R k q) (Some v)) (sym (get-of_entries o old q)))
 
-    pub table-remove : tree.Updates R m n k None → finite_map.from_entries {R = R} n.entries ≡ finite_map.remove (finite_map.from_entries m.entries) k
-    table-remove updates = is_remove o same _ _ k (λ q.
-        get-of_entries o n.entries q ∙ updates.0 q ∙ ap (cond (eq_by_cmp R k q) None) (sym (get-of_entries o m.entries q)))
+    pub table-remove : ((q : K) → lookup (is_at (R q)) new ≡ cond (eq_by_cmp R k q) None (lookup (is_at (R q)) old)) → finite_map.from_entries {R = R} new ≡ finite_map.remove (finite_map.from_entries old) k
+    table-remove is = is_remove o same _ _ k (λ q.
+        get-of_entries o new q ∙ is q ∙ ap (cond (eq_by_cmp R k q) None) (sym (get-of_entries o old q)))
 
   module _ (same : IsAntisymmetric R) (old new : List K) (k : K) where
     pub set-insert : ((q : K) → list_any (eq_by_cmp R q) new ≡ cond (eq_by_cmp R k q) true (list_any (eq_by_cmp R q) old)) → set.from_list {R = R} new ≡ set.insert (set.from_list old) k
@@ -137,6 +136,16 @@ module _ {K : Type 0} {R : K → K → Ordering} (o : IsTotalOrder R) where
         set.contains-remove o s k q
         ∙ elim (eq_by_cmp R q k) as (λ b. eq_by_cmp R q k ≡ b → (not b && set.contains s q) ≡ set.contains s q) [
           | true ↦ λ tied. sym absent ∙ ap (set.contains s) (sym (same q k ((Equal-is (R q k)).0 tied)))
+          | false ↦ λ _. refl
+        ] refl)
+
+  module _ {X : Type 0} (same : IsAntisymmetric R) (m : FinMap R X) (k : K) where
+    -- a key at which nothing stands, taken out
+    pub table-without : finite_map.get m k ≡ None → finite_map.remove m k ≡ m
+    table-without absent = finite_map.same_map o same (finite_map.remove m k) m (λ q.
+        finite_map.get-remove o m k q
+        ∙ elim (eq_by_cmp R q k) as (λ b. eq_by_cmp R q k ≡ b → cond b None (finite_map.get m q) ≡ finite_map.get m q) [
+          | true ↦ λ tied. sym absent ∙ ap (finite_map.get m) (sym (same q k ((Equal-is (R q k)).0 tied)))
           | false ↦ λ _. refl
         ] refl)
 

@@ -1,6 +1,7 @@
 mod Examples
 pub mod FiniteMaps
 pub mod Numbers
+pub mod NumberEntries
 pub mod Contents
 pub mod Gathered
 pub mod Recent

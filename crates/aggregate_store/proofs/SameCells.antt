@@ -8,22 +8,21 @@ use Rattle.std.proofs.lemmas.Map.Lookups.{btree_map_eq-Decides}
 use Rattle.std.proofs.lemmas.Slice.Eq.{slice_eq-Decides}
 use Rattle.std.specs.Bool.{Decides}
 use Rattle.std.specs.BTreeMap.{BTreeMap}
-use Rattle.std.specs.BTreeSet.{BTreeSet}
-use Rattle.std.specs.Cmp.{Equal-is, eq_by_cmp_equiv}
+use Rattle.std.specs.Cmp.{Equal-is, eq_by_cmp_equiv, signed_Decides}
 use Rattle.std.specs.Cmp.Lexicographic.{pointwise}
 use Rattle.std.specs.FinMap as finite_map
 use Rattle.std.specs.FinSet as set
 use Rattle.std.specs.List.Sorted.{IsStrictlySortedBy}
 use Rattle.std.specs.Map.{keys_of}
-use Rattle.std.specs.Ordering.{eq_by_cmp}
-use Rattle.tsl_value.specs.View.{scalar_cmp}
+use Rattle.std.specs.Ordering.{eq_by_cmp, int_eq}
+use Rattle.tsl_value.specs.View.{number_of, scalar_cmp}
 use Rattle.tsl_value.specs.declared.scalar.Scalar.{Scalar}
 use Rattle.tsl_value.specs.declared.scalar.Scalar.TheVariants as scalar
 use Rattle.tsl_value.specs.inner.ScalarOrder.{scalar_cmp_total}
 use Rattle.tsl_value.proofs.ScalarOrder.{scalar_cmp-IsAntisymmetric}
-use Rattle.aggregate_store.specs.inner.CellView.{table_of}
-use Rattle.aggregate_store.specs.inner.Keys.{set_of}
+use Rattle.aggregate_store.specs.inner.Entries.{entry_of}
 use Rattle.aggregate_store.proofs.FiniteMaps.{entries-of_entries, keys-of_keys}
+use Rattle.aggregate_store.proofs.Numbers.{images_same}
 
 abbrev is_same : Scalar → Scalar → Bool
 is_same a b = eq_by_cmp scalar_cmp a b
@@ -49,43 +48,61 @@ sets_same xs ys r lists first second = (λ yes. ap set.from_list (lists.0 yes), 
 
 -- ---- numbers and scalars, one after the other
 
--- whether all agree is whether those that are left do
-abbrev pub AgreeAs : List ℤ → List Scalar → List ℤ → List Scalar → Type 0
-AgreeAs numbers scalars ns ks = (map scalar.Int numbers ≡ scalars) ↔ (map scalar.Int ns ≡ ks)
+module _ {A B : Type 0} (f : A → B) where
+  -- whether all agree is whether those that are left do
+  abbrev pub AgreeAs : List A → List B → List A → List B → Type 0
+  AgreeAs numbers scalars ns ks = (map f numbers ≡ scalars) ↔ (map f ns ≡ ks)
 
-abbrev pub head_of : List Scalar → Option Scalar
+abbrev pub head_of : {B : Type 0} → List B → Option B
 head_of [] = None
 head_of (k ∷ ks) = Some k
 
 -- what an iterator gives is the first of what was left
-module _ (s t : List Scalar) where
-  pub head_left : (r : Option (Bor Scalar)) → TakesFirst deref s r t → option_copied r ≡ head_of s
-  head_left None left = sym (ap head_of left.0)
-  head_left (Some x) left = sym (ap head_of left)
+pub head_left : (s t : List Scalar) (r : Option (Bor Scalar)) → TakesFirst deref s r t → option_copied r ≡ head_of s
+head_left s t None left = sym (ap head_of left.0)
+head_left s t (Some x) left = sym (ap head_of left)
 
-  pub some_left : (r : Option (Bor Scalar)) → TakesFirst deref s r t → is_some (head_of s) ≡ is_some r
-  some_left None left = ap (λ xs. is_some (head_of xs)) left.0
-  some_left (Some x) left = ap (λ xs. is_some (head_of xs)) left
+pub some_left : {L B : Type 0} (shows : L → B) (s t : List B) (r : Option L) → TakesFirst shows s r t → is_some (head_of s) ≡ is_some r
+some_left shows s t None left = ap (λ xs. is_some (head_of xs)) left.0
+some_left shows s t (Some x) left = ap (λ xs. is_some (head_of xs)) left
 
-module _ (numbers : List ℤ) (scalars : List Scalar) where
-  pub agree_not : (n : ℤ) (before ns : List ℤ) (left : List Scalar) → before ≡ n ∷ ns → ¬ (head_of left ≡ Some (scalar.Int n)) → AgreeAs numbers scalars before left → Decides false (map scalar.Int numbers ≡ scalars)
+module _ {A B : Type 0} (f : A → B) (numbers : List A) (scalars : List B) where
+  pub agree_not : (n : A) (before ns : List A) (left : List B) → before ≡ n ∷ ns → ¬ (head_of left ≡ Some (f n)) → AgreeAs f numbers scalars before left → Decides false (map f numbers ≡ scalars)
   agree_not n before ns left numbers_are other agree = (
     λ yes. absurd (false≢true yes),
-    λ same. absurd (other (ap head_of (sym (agree.0 same) ∙ ap (map scalar.Int) numbers_are))),
+    λ same. absurd (other (ap head_of (sym (agree.0 same) ∙ ap (map f) numbers_are))),
   )
 
-  pub agree_all : (before : List ℤ) (left : List Scalar) (r : Bool) → before ≡ [] → is_some (head_of left) ≡ not r → AgreeAs numbers scalars before left → Decides r (map scalar.Int numbers ≡ scalars)
-  agree_all before [] true none ended agree = (λ yes. agree.1 (ap (map scalar.Int) none), λ same. refl)
+  pub agree_all : (before : List A) (left : List B) (r : Bool) → before ≡ [] → is_some (head_of left) ≡ not r → AgreeAs f numbers scalars before left → Decides r (map f numbers ≡ scalars)
+  agree_all before [] true none ended agree = (λ yes. agree.1 (ap (map f) none), λ same. refl)
   agree_all before [] false none ended agree = absurd (false≢true ended)
   agree_all before (k ∷ ks) true none ended agree = absurd (true≢false ended)
   agree_all before (k ∷ ks) false none ended agree = (
     λ yes. absurd (false≢true yes),
-    λ same. absurd (false≢true (ap (λ xs. is_some (head_of xs)) (sym (ap (map scalar.Int) none) ∙ agree.0 same))),
+    λ same. absurd (false≢true (ap (λ xs. is_some (head_of xs)) (sym (ap (map f) none) ∙ agree.0 same))),
   )
 
-pub maps_same : (m n : BTreeMap Scalar Scalar) (r : Bool) → r ≡ pointwise (λ (p q : Scalar × Scalar). is_same p.0 q.0 && is_same p.1 q.1) m.entries n.entries → IsStrictlySortedBy scalar_cmp (keys_of m.entries) → IsStrictlySortedBy scalar_cmp (keys_of n.entries) → Decides r (table_of m ≡ table_of n)
-maps_same m n r is first second =
-    let entries = btree_map_eq-Decides same_scalar same_scalar m n r is in (
-      λ yes. ap finite_map.from_entries (entries.0 yes),
-      λ same. entries.1 (sym (entries-of_entries scalar_cmp_total m.entries first) ∙ ap finite_map.entries same ∙ entries-of_entries scalar_cmp_total n.entries second),
-    )
+-- ---- maps
+
+pub tables_same : (xs ys : List (Scalar × Scalar)) (r : Bool) → Decides r (xs ≡ ys) → IsStrictlySortedBy scalar_cmp (keys_of xs) → IsStrictlySortedBy scalar_cmp (keys_of ys) → Decides r (finite_map.from_entries {R = scalar_cmp} xs ≡ finite_map.from_entries ys)
+tables_same xs ys r lists first second = (
+  λ yes. ap finite_map.from_entries (lists.0 yes),
+  λ same. lists.1 (sym (entries-of_entries scalar_cmp_total xs first) ∙ ap finite_map.entries same ∙ entries-of_entries scalar_cmp_total ys second),
+)
+
+pub scalar_entries_same : (m n : BTreeMap Scalar Scalar) (r : Bool) → r ≡ pointwise (λ (p q : Scalar × Scalar). is_same p.0 q.0 && is_same p.1 q.1) m.entries n.entries → Decides r (m.entries ≡ n.entries)
+scalar_entries_same m n r is = btree_map_eq-Decides same_scalar same_scalar m n r is
+
+pub entry_same : (key found value : Scalar) (number : ℤ) (r : Bool) → key ≡ scalar.Int number → r ≡ is_same found value → Decides r ((key, found) ≡ entry_of (number, value))
+entry_same key found value number r key_is is = (
+  λ yes. (λ i. (key_is i, (same_scalar found value).0 (sym is ∙ yes) i)),
+  λ same. is ∙ (same_scalar found value).1 (ap (λ (e : Scalar × Scalar). e.1) same),
+)
+
+-- an entry with its key as a number
+abbrev number_entry : Scalar × Scalar → ℤ × Scalar
+number_entry e = (number_of e.0, e.1)
+
+pub number_entries_same : (m n : BTreeMap ℤ Scalar) (r : Bool) → r ≡ pointwise (λ (p q : ℤ × Scalar). int_eq p.0 q.0 && is_same p.1 q.1) m.entries n.entries → Decides r (map entry_of m.entries ≡ map entry_of n.entries)
+number_entries_same m n r is =
+    images_same entry_of number_entry (λ e. refl) m.entries n.entries r (btree_map_eq-Decides signed_Decides same_scalar m n r is)

@@ -1,16 +1,15 @@
 // Cells, each with a set, a map or a queue.
 
 ghost use Rattle.std.specs.Prelude.{◌≡◌, [], ◌∷◌, ◌++◌, IfOk, IsTrue, OnOk, OnErr, drop};
-ghost use Rattle.std.specs.FinMap as map;
 ghost use Rattle.std.specs.Option.{option_copied};
 ghost use Rattle.cell_reader.specs.inner.Cells.{front_of, has_key, value_at};
 ghost use Rattle.tsl_value.specs.Aggregate.{empty_of, is_aggregate, size_of};
-ghost use Rattle.aggregate_store.specs.inner.CellView.{table_of};
 ghost use Rattle.aggregate_store.specs.inner.Stored.{with_added, with_last, without_front, without_key};
 
+use crate::entry_tree::EntryTree;
 use crate::keys::KeySet;
 use std::alloc::Global;
-use std::collections::{BTreeMap, VecDeque};
+use std::collections::VecDeque;
 use tsl_value::memory::NoMemory;
 use tsl_value::scalar::{Scalar, ValueType};
 
@@ -21,22 +20,8 @@ const ROOM: usize = 64;
 #[derive(Drop)]
 pub enum Cell {
     Set(KeySet),
-    Map(BTreeMap<Scalar, Scalar>),
+    Map(EntryTree),
     Queue(VecDeque<Scalar>),
-}
-
-/// Puts a copy of a value at a copy of a key.
-#[inline(never)]
-fn add_entry(
-    key: &Scalar,
-    value: &Scalar,
-    entries: &mut BTreeMap<Scalar, Scalar>,
-) -> Result<(), NoMemory>
-    ensures ok { OnOk result (table_of entries.new ≡ map.insert (table_of entries.old) key.now value.now) }
-    ensures err { OnErr result (table_of entries.new ≡ table_of entries.old) }
-{
-    entries.insert(key.copy()?, value.copy()?)?;
-    Ok(())
 }
 
 /// Halves the room of a queue that fills no more than a quarter of it. A dequeue gives none back, since it takes no memory.
@@ -77,7 +62,7 @@ impl Cell {
         match of {
             ValueType::Scalar(_) => unreachable!(),
             ValueType::Set(_) => Cell::Set(KeySet::new(alloc)),
-            ValueType::Map(_, _) => Cell::Map(BTreeMap::new(alloc)),
+            ValueType::Map(_, _) => Cell::Map(EntryTree::new(alloc)),
             ValueType::Queue(_) => Cell::Queue(VecDeque::new(alloc)),
         }
     }
@@ -100,7 +85,7 @@ impl Cell {
     {
         match self {
             Cell::Set(keys) => keys.contains(key),
-            Cell::Map(entries) => entries.contains_key(key),
+            Cell::Map(entries) => entries.has(key),
             Cell::Queue(_) => false,
         }
     }
@@ -111,7 +96,7 @@ impl Cell {
     {
         match self {
             Cell::Set(_) => None,
-            Cell::Map(entries) => entries.get(key),
+            Cell::Map(entries) => entries.value_at(key),
             Cell::Queue(_) => None,
         }
     }
@@ -133,7 +118,7 @@ impl Cell {
     {
         match self {
             Cell::Set(keys) => Ok(Cell::Set(keys.copy()?)),
-            Cell::Map(entries) => Ok(Cell::Map(entries.clone()?)),
+            Cell::Map(entries) => Ok(Cell::Map(entries.copy()?)),
             Cell::Queue(elements) => Ok(Cell::Queue(elements.clone()?)),
         }
     }
@@ -148,7 +133,7 @@ impl Cell {
                 keys.insert(&key)?;
             }
             Cell::Map(entries) => {
-                entries.insert(key, value)?;
+                entries.put_copy(&key, &value)?;
             }
             Cell::Queue(_) => {}
         }
@@ -163,7 +148,7 @@ impl Cell {
     {
         match self {
             Cell::Set(keys) => keys.insert(key),
-            Cell::Map(entries) => add_entry(key, value, entries),
+            Cell::Map(entries) => entries.put_copy(key, value),
             Cell::Queue(_) => Ok(()),
         }
     }

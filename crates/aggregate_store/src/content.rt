@@ -8,10 +8,12 @@ ghost use Rattle.std.specs.List.Sorted.{IsStrictlySortedBy};
 ghost use Rattle.aggregate_store.specs.Content.{AllIn, AreInOrder, IsInRange, content_of, is_of_aggregate, view_in};
 ghost use Rattle.tsl_value.specs.Print.{in_order};
 ghost use Rattle.tsl_value.specs.View.{scalar_cmp};
-ghost use Rattle.aggregate_store.specs.inner.CellView.{table_of, view_of};
+ghost use Rattle.aggregate_store.specs.inner.CellView.{view_of};
+ghost use Rattle.aggregate_store.specs.inner.Entries.{table_of, table_of_numbers, table_of_scalars};
 ghost use Rattle.aggregate_store.specs.inner.Keys.{set_of, set_of_numbers, set_of_scalars};
 
 use crate::cell::Cell;
+use crate::entry_tree::EntryTree;
 use crate::key_tree::{KeyTree, key_of};
 use crate::keys::KeySet;
 use crate::lists::{Pairs, Scalars};
@@ -70,9 +72,25 @@ fn keys_of(alloc: Global, keys: &KeyTree) -> Result<Scalars, NoMemory>
     }
 }
 
-/// The entries of a map in the order of their keys.
-fn entries_of(alloc: Global, entries: &BTreeMap<Scalar, Scalar>) -> Result<Pairs, NoMemory>
-    ensures entries { IfOk result (λ list. list ≡ finite_map.entries (table_of entries.now)) }
+/// Entries with numbers as keys, in their order.
+fn number_entries_of(alloc: Global, entries: &BTreeMap<i64, Scalar>) -> Result<Pairs, NoMemory>
+    ensures entries { IfOk result (λ list. list ≡ finite_map.entries (table_of_numbers entries.now)) }
+    ensures range { IfOk result (AllByRecursion (λ e. IsInRange e.0 × IsInRange e.1)) }
+{
+    let mut list = Pairs::new(alloc);
+    let rest = entries.iter();
+    for (number, value) in rest {
+        let key = key_of(number);
+        assert_in_range(&key);
+        assert_in_range(value);
+        list.push((key, value.copy()?))?;
+    }
+    Ok(list)
+}
+
+/// Entries in the order of their keys.
+fn scalar_entries_of(alloc: Global, entries: &BTreeMap<Scalar, Scalar>) -> Result<Pairs, NoMemory>
+    ensures entries { IfOk result (λ list. list ≡ finite_map.entries (table_of_scalars entries.now)) }
     ensures range { IfOk result (AllByRecursion (λ e. IsInRange e.0 × IsInRange e.1)) }
 {
     let mut list = Pairs::new(alloc);
@@ -83,6 +101,17 @@ fn entries_of(alloc: Global, entries: &BTreeMap<Scalar, Scalar>) -> Result<Pairs
         list.push((key.copy()?, value.copy()?))?;
     }
     Ok(list)
+}
+
+/// The entries of a map in the order of their keys.
+fn entries_of(alloc: Global, entries: &EntryTree) -> Result<Pairs, NoMemory>
+    ensures entries { IfOk result (λ list. list ≡ finite_map.entries (table_of entries.now)) }
+    ensures range { IfOk result (AllByRecursion (λ e. IsInRange e.0 × IsInRange e.1)) }
+{
+    match entries {
+        EntryTree::Numbers(_, numbers) => number_entries_of(alloc, numbers),
+        EntryTree::Scalars(scalars) => scalar_entries_of(alloc, scalars),
+    }
 }
 
 /// The elements of a queue, the front first.
@@ -123,13 +152,13 @@ fn set_with(alloc: Global, keys: &[Scalar]) -> Result<KeySet, NoMemory>
 }
 
 /// The map of these entries, whose keys rise.
-fn map_with(alloc: Global, list: &[(Scalar, Scalar)]) -> Result<BTreeMap<Scalar, Scalar>, NoMemory>
+fn map_with(alloc: Global, list: &[(Scalar, Scalar)]) -> Result<EntryTree, NoMemory>
     requires { IsStrictlySortedBy scalar_cmp (map (λ e. e.0) list.now) }
     ensures { IfOk result (λ m. table_of m ≡ finite_map.from_entries list.now) }
 {
-    let mut entries = BTreeMap::new(alloc);
+    let mut entries = EntryTree::new(alloc);
     for entry in list {
-        entries.insert(entry.0.copy()?, entry.1.copy()?)?;
+        entries.put_copy(&entry.0, &entry.1)?;
     }
     Ok(entries)
 }

@@ -3,6 +3,7 @@
 
 pub mod cell;
 pub mod content;
+pub mod entry_tree;
 pub mod key_tree;
 pub mod keys;
 pub mod laws;

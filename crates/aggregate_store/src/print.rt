@@ -4,10 +4,12 @@ ghost use Rattle.std.specs.Prelude.{◌≡◌, ◌++◌, codes, length, map, tak
 ghost use Rattle.std.specs.FinMap as finite_map;
 ghost use Rattle.tsl_value.specs.declared.scalar.Scalar.TheVariants as scalar;
 ghost use Rattle.tsl_value.specs.Print.{in_order, listed, scalar_text, view_text};
-ghost use Rattle.aggregate_store.specs.inner.CellView.{table_of, view_of};
+ghost use Rattle.aggregate_store.specs.inner.CellView.{view_of};
+ghost use Rattle.aggregate_store.specs.inner.Entries.{table_of, table_of_numbers, table_of_scalars};
 ghost use Rattle.aggregate_store.specs.inner.Keys.{set_of, set_of_numbers, set_of_scalars};
 
 use crate::cell::Cell;
+use crate::entry_tree::EntryTree;
 use crate::key_tree::{KeyTree, key_of};
 use std::collections::{BTreeMap, BTreeSet, VecDeque};
 use tsl_value::bytes::Bytes;
@@ -122,9 +124,50 @@ fn append_elements(elements: &VecDeque<Scalar>, out: &mut Bytes) -> Result<(), N
 }
 
 /// Appends the entries in the keys' order, with a comma and a blank between them.
-fn append_entries(entries: &BTreeMap<Scalar, Scalar>, out: &mut Bytes) -> Result<(), NoMemory>
+fn append_entries(entries: &EntryTree, out: &mut Bytes) -> Result<(), NoMemory>
     ensures ok { OnOk result (out.new ≡ out.old
         ++ listed (map (λ e. scalar_text e.0 ++ (codes " -> " ++ scalar_text e.1)) (finite_map.entries (table_of entries.now)))) }
+    ensures err { OnErr result (take (length out.old) out.new ≡ out.old) }
+{
+    match entries {
+        EntryTree::Numbers(_, numbers) => append_number_entries(numbers, out),
+        EntryTree::Scalars(scalars) => append_scalar_entries(scalars, out),
+    }
+}
+
+/// Appends the entries in the numbers' order, with a comma and a blank between them.
+fn append_number_entries(entries: &BTreeMap<i64, Scalar>, out: &mut Bytes) -> Result<(), NoMemory>
+    ensures ok { OnOk result (out.new ≡ out.old
+        ++ listed (map (λ e. scalar_text e.0 ++ (codes " -> " ++ scalar_text e.1)) (finite_map.entries (table_of_numbers entries.now)))) }
+    ensures err { OnErr result (take (length out.old) out.new ≡ out.old) }
+{
+    let mut rest = entries.iter();
+    let Some((number, value)) = rest.next() else {
+        return Ok(());
+    };
+    append_number_entry(number, value, out)?;
+    for (number, value) in rest {
+        out.append(b", ")?;
+        append_number_entry(number, value, out)?;
+    }
+    Ok(())
+}
+
+fn append_number_entry(number: &i64, value: &Scalar, out: &mut Bytes) -> Result<(), NoMemory>
+    ensures ok { OnOk result (out.new ≡ out.old ++ (scalar_text (scalar.Int number.now) ++ (codes " -> " ++ scalar_text value.now))) }
+    ensures err { OnErr result (take (length out.old) out.new ≡ out.old) }
+{
+    let key = key_of(number);
+    append_entry(&key, value, out)
+}
+
+/// Appends the entries in the scalars' order, with a comma and a blank between them.
+fn append_scalar_entries(
+    entries: &BTreeMap<Scalar, Scalar>,
+    out: &mut Bytes,
+) -> Result<(), NoMemory>
+    ensures ok { OnOk result (out.new ≡ out.old
+        ++ listed (map (λ e. scalar_text e.0 ++ (codes " -> " ++ scalar_text e.1)) (finite_map.entries (table_of_scalars entries.now)))) }
     ensures err { OnErr result (take (length out.old) out.new ≡ out.old) }
 {
     let mut rest = entries.iter();

@@ -1,15 +1,11 @@
 -- The views of the aggregates that cells hold.
 use Rattle.std.specs.Prelude.{ℕ, suc, List, [], ◌∷◌, Option, Some, None}
-use Rattle.std.specs.BTreeMap.{BTreeMap}
 use Rattle.std.specs.FinMap as finite_map
-use Rattle.tsl_value.specs.View.{View, Keyed, Mapped, Listed, Table}
-use Rattle.tsl_value.specs.declared.scalar.Scalar.{Scalar}
+use Rattle.tsl_value.specs.View.{View, Keyed, Mapped, Listed}
 use Rattle.cell_reader.specs.inner.Cells.{Cells}
 use Rattle.aggregate_store.specs.declared.cell.Cell.{Cell}
 use Rattle.aggregate_store.specs.declared.cell.Cell.TheVariants as cell
-
-abbrev pub table_of : BTreeMap Scalar Scalar → Table
-table_of m = finite_map.from_entries m.entries
+use Rattle.aggregate_store.specs.inner.Entries.{table_of}
 
 abbrev pub view_of : Cell → View
 view_of (cell.Set s) = Keyed s

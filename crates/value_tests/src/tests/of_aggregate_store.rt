@@ -2,6 +2,9 @@
 
 ghost use Rattle.cell_reader.specs.inner.Cells.{IsLive};
 
+use aggregate_store::cell::Cell;
+use aggregate_store::print::print_cell;
+use aggregate_store::same::is_same_cell;
 use aggregate_store::store::Store;
 use cell_reader::reader::Reader;
 use std::alloc::Global;
@@ -46,5 +49,39 @@ fn cells_are_dropped(rt: HostRuntime) -> Result<(), Fail> {
     assert!(rt; store.count() == 1);
     let printed = text(rt.alloc(), &store, third)?;
     assert!(rt; printed.as_slice() == b"Map()".as_slice());
+    Ok(())
+}
+
+fn cell_text(alloc: Global, cell: &Cell) -> Result<Bytes, NoMemory> {
+    let mut out = Bytes::new(alloc);
+    print_cell(cell, &mut out)?;
+    Ok(out)
+}
+
+fn are_same(a: &Cell, b: &Cell) -> bool {
+    is_same_cell(a, b) && is_same_cell(b, a)
+}
+
+#[test]
+fn a_map_of_numbers_takes_other_keys(rt: HostRuntime) -> Result<(), Fail> {
+    let mut numbers = Cell::empty(rt.alloc(), ValueType::Map(KeyType::Int, ScalarType::Int));
+    numbers.add_copied(&Scalar::Int(7), &Scalar::Int(70))?;
+    numbers.add_copied(&Scalar::Int(-2), &Scalar::Int(20))?;
+    let mut others = numbers.copy()?;
+    others.add_copied(&Scalar::Bool(true), &Scalar::Int(0))?;
+    let printed = cell_text(rt.alloc(), &others)?;
+    assert!(rt; printed.as_slice() == b"Map(-2 -> 20, 7 -> 70, true -> 0)".as_slice());
+    assert!(rt; others.size() == 3 && !are_same(&numbers, &others));
+    others.remove(&Scalar::Bool(true));
+    assert!(rt; are_same(&numbers, &others) && are_same(&others, &others));
+    others.add_copied(&Scalar::Int(7), &Scalar::Int(71))?;
+    assert!(rt; !are_same(&numbers, &others) && !numbers.contains(&Scalar::Bool(true)));
+    numbers.add_copied(&Scalar::Int(7), &Scalar::Int(71))?;
+    assert!(rt; are_same(&numbers, &others) && others.contains(&Scalar::Int(-2)));
+    numbers.remove(&Scalar::Bool(false));
+    numbers.remove(&Scalar::Int(-2));
+    let printed = cell_text(rt.alloc(), &numbers)?;
+    assert!(rt; printed.as_slice() == b"Map(7 -> 71)".as_slice());
+    assert!(rt; numbers.size() == 1 && !are_same(&numbers, &others));
     Ok(())
 }

@@ -1,6 +1,6 @@
 use Rattle.std.proofs.Common.{◌≡◌, take}
 use Rattle.std.specs.FinMap as finite_map
-use Rattle.aggregate_store.specs.inner.CellView.{table_of}
+use Rattle.aggregate_store.specs.inner.Entries.{table_of}
 use Rattle.aggregate_store.proofs.content.map_with.Given as goal
 
 abbrev pub invariant-loop-entry : goal.invariant-loop-entry

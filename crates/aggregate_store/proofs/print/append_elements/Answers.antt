@@ -1,6 +1,6 @@
-use Rattle.std.proofs.Common.{rules, ◌≡◌, ◌∷◌, ◌++◌, map, sym, ap, ◌∙◌}
+use Rattle.std.proofs.Common.{rules, ◌≡◌, ◌∷◌, ◌++◌, sym, ◌∙◌}
 use Rattle.std.specs.VecDeque.Iter.{deque_iter_rest}
-use Rattle.tsl_value.specs.Print.{listed, scalar_text}
+use Rattle.tsl_value.specs.Print.{scalar_text}
 use Rattle.aggregate_store.proofs.Listed.{all_printed, begins_with, first_printed, none_left, none_printed}
 use Rattle.aggregate_store.proofs.print.append_elements.Goals as goal
 

@@ -1,4 +1,4 @@
-use Rattle.std.proofs.Common.{rules, ◌≡◌, ◌∷◌, ◌++◌, map, sym, ap, ◌∙◌}
+use Rattle.std.proofs.Common.{rules, ◌≡◌, ◌∷◌, ◌++◌, sym, ap, ◌∙◌}
 use Rattle.aggregate_store.proofs.Listed.{all_printed, begins_with, first_printed, none_printed}
 use Rattle.aggregate_store.proofs.Numbers.{number_text, numbers_text}
 use Rattle.aggregate_store.proofs.print.append_numbers.Goals as goal

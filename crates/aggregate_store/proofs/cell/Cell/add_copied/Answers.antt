@@ -8,5 +8,5 @@ use Rattle.aggregate_store.proofs.cell.Cell.add_copied.Goals as goal
 
 pub returns-in-Map-clause-ok : goal.returns-in-Map-clause-ok
 returns-in-Map-clause-ok c =
-    on_ok_weaker c.add_entry.result (λ ok.
-    ap Mapped ok ∙ sym (ap (λ (cell : Cell). with_added (view_of cell) c.args.key.now c.args.value.now) c.in-Map.is)) c.add_entry.ensures.ok
+    on_ok_weaker c.put_copy.result (λ ok.
+    ap Mapped ok ∙ sym (ap (λ (cell : Cell). with_added (view_of cell) c.args.key.now c.args.value.now) c.in-Map.is)) c.put_copy.ensures.ok

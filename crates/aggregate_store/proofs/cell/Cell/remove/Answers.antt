@@ -1,11 +1,8 @@
 use Rattle.std.proofs.Common.{sym, ap, ◌∙◌}
 use Rattle.tsl_value.specs.View.{Keyed, Mapped}
-use Rattle.tsl_value.specs.inner.ScalarOrder.{scalar_cmp_total}
-use Rattle.tsl_value.proofs.ScalarOrder.{scalar_cmp-IsAntisymmetric}
 use Rattle.aggregate_store.specs.inner.Stored.{without_key}
 use Rattle.aggregate_store.specs.inner.CellView.{view_of}
 use Rattle.aggregate_store.specs.declared.cell.Cell.{Cell}
-use Rattle.aggregate_store.proofs.FiniteMaps.{table-remove}
 use Rattle.aggregate_store.proofs.cell.Cell.remove.Goals as goal
 
 pub returns-in-Set : goal.returns-in-Set
@@ -15,5 +12,5 @@ returns-in-Set c =
 
 pub returns-in-Map : goal.returns-in-Map
 returns-in-Map c =
-    ap Mapped (table-remove scalar_cmp_total scalar_cmp-IsAntisymmetric c.in-Map.entries c.remove-in-Map.new.self c.args.key.now c.remove-in-Map.ensures.updates)
+    ap Mapped c.remove-in-Map.ensures
     ∙ sym (ap (λ (cell : Cell). without_key (view_of cell) c.args.key.now) c.in-Map.is)

@@ -1,9 +1,7 @@
 use Rattle.std.proofs.Common.{sym, ap, ◌∙◌}
-use Rattle.tsl_value.specs.inner.ScalarOrder.{scalar_cmp_total}
 use Rattle.tsl_value.specs.Aggregate.{size_of}
 use Rattle.aggregate_store.specs.inner.CellView.{view_of}
 use Rattle.aggregate_store.specs.declared.cell.Cell.{Cell}
-use Rattle.aggregate_store.proofs.FiniteMaps.{len-of_entries}
 use Rattle.aggregate_store.proofs.cell.Cell.size.Goals as goal
 
 pub returns-in-Set : goal.returns-in-Set
@@ -12,8 +10,7 @@ returns-in-Set c =
 
 pub returns-in-Map : goal.returns-in-Map
 returns-in-Map c =
-    c.len-in-Map.ensures.len ∙ sym (len-of_entries scalar_cmp_total c.in-Map.entries.entries c.len-in-Map.ensures.ordered)
-    ∙ sym (ap (λ (cell : Cell). size_of (view_of cell)) c.in-Map.is)
+    c.len-in-Map.ensures ∙ sym (ap (λ (cell : Cell). size_of (view_of cell)) c.in-Map.is)
 
 pub returns-in-Queue : goal.returns-in-Queue
 returns-in-Queue c =

@@ -2,7 +2,7 @@ use Rattle.std.proofs.Common.{rules, sym, ◌∙◌}
 use Rattle.tsl_value.specs.inner.ScalarOrder.{scalar_cmp_total}
 use Rattle.aggregate_store.proofs.FiniteMaps.{entries-of_entries}
 use Rattle.aggregate_store.proofs.Gathered.{all_gathered}
-use Rattle.aggregate_store.proofs.content.entries_of.Goals as goal
+use Rattle.aggregate_store.proofs.content.scalar_entries_of.Goals as goal
 
 pub returns-clause-entries : goal.returns-clause-entries
 returns-clause-entries c =

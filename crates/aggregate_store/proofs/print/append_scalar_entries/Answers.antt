@@ -3,7 +3,7 @@ use Rattle.tsl_value.specs.Print.{listed}
 use Rattle.tsl_value.specs.inner.ScalarOrder.{scalar_cmp_total}
 use Rattle.aggregate_store.proofs.FiniteMaps.{entries-of_entries}
 use Rattle.aggregate_store.proofs.Listed.{all_printed, begins_still, begins_through, begins_with, entry_text, first_printed, none_printed}
-use Rattle.aggregate_store.proofs.print.append_entries.Goals as goal
+use Rattle.aggregate_store.proofs.print.append_scalar_entries.Goals as goal
 
 pub returns-in_default-clause-ok : goal.returns-in_default-clause-ok
 returns-in_default-clause-ok c =
