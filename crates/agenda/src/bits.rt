@@ -48,6 +48,7 @@ impl Bits {
     }
 
     /// Marks a place.
+    #[inline(never)]
     pub(crate) fn mark(&mut self, place: usize)
         requires { place < length self.old }
         ensures { self.new ≡ slice_set self.old place true }
@@ -68,6 +69,7 @@ impl Bits {
     }
 
     /// Takes the least marked place, which is marked no more. `None` exactly where none is marked.
+    #[inline(never)]
     pub(crate) fn take_least(&mut self) -> Option<usize>
         ensures least { MatchOption result (HasNoMark self.old) (IsLeastMark self.old) }
         ensures within { IfSome result (λ place. place < length self.old) }

@@ -45,6 +45,7 @@ impl Agenda {
     }
 
     /// Marks a place.
+    #[inline(always)]
     pub fn mark(&mut self, place: usize)
         requires { place < length self.old }
         ensures { self.new ≡ slice_set self.old place true }
@@ -77,6 +78,7 @@ impl Agenda {
     }
 
     /// Marks these places.
+    #[inline(always)]
     pub fn mark_each(&mut self, places: &[u32])
         requires { All (λ place. place < length self.old) places.now }
         ensures size { length self.new ≡ length self.old }
@@ -88,6 +90,7 @@ impl Agenda {
     }
 
     /// Takes the least marked place, which is marked no more. `None` exactly where none is marked.
+    #[inline(always)]
     pub fn take_least(&mut self) -> Option<usize>
         ensures least { MatchOption result (HasNoMark self.old) (IsLeastMark self.old) }
         ensures within { IfSome result (λ place. place < length self.old) }

@@ -1,3 +1,4 @@
+pub mod ActionLemmas
 pub mod AskedLemmas
 pub mod CellLemmas
 pub mod UpdateLemmas

@@ -113,6 +113,17 @@ same-two p q = record {
   texts_each = q.texts_each ∙ p.texts_each;
 }
 
+-- what is beside has the same room
+pub room_beside : (s : System) (old new : Machine) → HasRoom s old → SameBeside old new → HasRoom s new
+room_beside s old new room beside = record {
+  registers = beside.registers_each ∙ room.registers;
+  faulted = beside.faulted_each ∙ room.faulted;
+  ledger = beside.ledger_each ∙ room.ledger;
+  capacity = ap (λ t. t.capacity) beside.timers ∙ room.capacity;
+  last = ap length beside.last ∙ room.last;
+  texts = beside.texts_each ∙ room.texts;
+}
+
 pub partly_none : (s : System) → IsFlat s → (plan : Plan) (t : ℕ) (old : Machine) → AllHeld s old → AreFresh s old → ((k : ℕ) → slice_index_or old.texts.items k [] ≡ []) → IsPartly s plan t [] old old None
 partly_none s whole plan t old all fresh texts = record {
   same = record { timers = refl; last = refl; registers_each = refl; faulted_each = refl; ledger_each = refl; texts_each = refl };

@@ -13,6 +13,7 @@ use Rattle.flat_core.proofs.Members.{all_from, in-Contains}
 use Rattle.flat_core.specs.Kept.{is_timer, keeps_of, timers_of}
 use Rattle.step_uses.specs.Uses.{is_of_delay, row, used_by}
 use Rattle.monitor_run.specs.declared.tables.Tables.{Tables}
+use Rattle.monitor_run.specs.inner.Actions.{AreActions}
 use Rattle.monitor_run.specs.inner.Visits.{AreFilled, AreTables, AreUses, AreWithin}
 use Rattle.monitor_run.specs.inner.Instant.{IsLeastRoot, refusal_of, set_at}
 use Rattle.monitor_run.specs.declared.run.Root.{Root}
@@ -37,10 +38,11 @@ timers_there s whole delays is =
     subst (All (λ i. i < length s.equations)) (sym is) (All-from_recursion (λ i. i < length s.equations) (timers_of s) (all_from (λ i. i < length s.equations) (timers_of s) (λ i there. timer_there s whole i (listed_timer s i (in-Contains (timers_of s) i there)))))
 
 pub tables_are : (s q : System) (order lent delays keeps : List ℕ) (count : ℕ) (t : Tables) → q ≡ s → lent ≡ order → delays ≡ timers_of s → keeps ≡ keeps_of s → count ≡ length s.equations
-    → length t.uses ≡ length q.equations → ((a p : ℕ) → a < length q.equations → is_in (row t.uses a) p ≡ (nat_lt p (length lent) && is_in (used_by q (slice_index lent p)) a))
+    → AreActions q lent t.actions.items → length t.uses ≡ length q.equations → ((a p : ℕ) → a < length q.equations → is_in (row t.uses a) p ≡ (nat_lt p (length lent) && is_in (used_by q (slice_index lent p)) a))
     → ((a d : ℕ) → a < length q.equations → is_in (row t.delays a) d ≡ (is_in delays d && is_of_delay q d a))
     → length t.kept.items ≡ count → ((i : ℕ) → i < count → slice_index_or t.kept.items i false ≡ is_in keeps i) → AreTables s order t
-tables_are s q order lent delays keeps count t system order_is delays_are keeps_are count_is uses_each uses waits kept_each kept = record {
+tables_are s q order lent delays keeps count t system order_is delays_are keeps_are count_is actions uses_each uses waits kept_each kept = record {
+  actions = subst (λ x. AreActions x order t.actions.items) system (subst (λ xs. AreActions q xs t.actions.items) order_is actions);
   uses = uses_now;
   within = within_are s order t.uses (uses_each ∙ ap (λ (x : System). length x.equations) system) uses_now;
   delays = λ a d lt. waits a d (there a lt) ∙ (λ k. is_in (delays_are k) d && is_of_delay (system k) d a);

@@ -7,6 +7,7 @@ pub mod Here
 pub mod Machine
 pub mod Stored
 pub mod Instant
+pub mod Actions
 pub mod State
 pub mod Next
 pub mod Stands

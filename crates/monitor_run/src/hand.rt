@@ -1,33 +1,24 @@
 // Events that operations hand on. The register of an aggregate names the same cell.
 
-ghost use Rattle.std.specs.Prelude.{◌≡◌, ◌<◌, All, IfSome, OnOk, None, if◌then◌else◌, is_some, length, map, slice_index, slice_set};
+ghost use Rattle.std.specs.Prelude.{◌≡◌, ◌<◌, ℕ, List, All, IfSome, OnOk, None, true, if◌then◌else◌, is_some, length, slice_set};
 ghost use Rattle.std.specs.Option.{option_and_then, option_or};
 ghost use Rattle.register_machine.specs.Machine.{where_either, where_true};
-ghost use Rattle.flat_core.specs.inner.Arity.{HasArity};
-ghost use Rattle.monitor_run.specs.inner.Here.{HasHanded, chosen_of, handed_of, hands_on, truth_of};
+ghost use Rattle.flat_core.specs.declared.equation.Op.{Op};
+ghost use Rattle.monitor_run.specs.inner.Here.{HasHanded, handed_of, hands_on, truth_of};
+ghost use Rattle.monitor_run.specs.inner.Actions.{IsActionOf};
 ghost use Rattle.monitor_run.specs.inner.Registers.{register_at};
 ghost use Rattle.monitor_run.specs.inner.Shown.{held_at, held_by};
 
-use crate::case::{argument, register};
+use crate::action::Action;
+use crate::case::register;
 use crate::machine::put;
 use body_eval::register::Register;
-use flat_core::equation::{Equation, Op};
-use flat_core::lists::Args;
 use tsl_value::ids::EqId;
 use tsl_value::memory::NoMemory;
 use tsl_value::scalar::Scalar;
 
-/// Whether an operation hands on the event of an argument, or a last one.
-pub(crate) fn hands_on(o: &Op) -> bool
-    ensures { result ≡ hands_on o.now }
-{
-    match o {
-        Op::Merge | Op::Filter | Op::Pick | Op::Last => true,
-        _ => false,
-    }
-}
-
 /// Puts a copy of a register into a place.
+#[inline(always)]
 fn put_copy(source: &Register, place: usize, registers: &mut [Register]) -> Result<(), NoMemory>
     requires { place < length registers.old }
     ensures { OnOk result (registers.new ≡ slice_set registers.old place source.now) }
@@ -41,6 +32,7 @@ fn put_copy(source: &Register, place: usize, registers: &mut [Register]) -> Resu
 }
 
 /// Puts a copy of one register into the place of another.
+#[inline(always)]
 fn copy_within(from: usize, to: usize, registers: &mut [Register]) -> Result<(), NoMemory>
     requires from { from < length registers.old }
     requires to { to < length registers.old }
@@ -61,6 +53,7 @@ fn copy_within(from: usize, to: usize, registers: &mut [Register]) -> Result<(),
 }
 
 /// What a condition says, if it has an event.
+#[inline(always)]
 fn truth(condition: &Register) -> Option<bool>
     ensures { result ≡ truth_of (held_by condition.now) }
 {
@@ -71,6 +64,7 @@ fn truth(condition: &Register) -> Option<bool>
 }
 
 /// The first of two, or else the second.
+#[inline(always)]
 fn merged(a: EqId, b: EqId, registers: &[Register]) -> Option<EqId>
     requires first { a < length registers.now }
     requires second { b < length registers.now }
@@ -85,6 +79,7 @@ fn merged(a: EqId, b: EqId, registers: &[Register]) -> Option<EqId>
 }
 
 /// One where a condition is true.
+#[inline(always)]
 fn passed(value: EqId, condition: EqId, registers: &[Register]) -> Option<EqId>
     requires value { value < length registers.now }
     requires condition { condition < length registers.now }
@@ -99,6 +94,7 @@ fn passed(value: EqId, condition: EqId, registers: &[Register]) -> Option<EqId>
 }
 
 /// The first of two where a condition is true and the second where it is false, if all three have events.
+#[inline(always)]
 fn picked(condition: EqId, a: EqId, b: EqId, registers: &[Register]) -> Option<EqId>
     requires condition { condition < length registers.now }
     requires first { a < length registers.now }
@@ -116,45 +112,31 @@ fn picked(condition: EqId, a: EqId, b: EqId, registers: &[Register]) -> Option<E
     }
 }
 
-/// The argument whose event an operation hands on.
-fn chosen(e: &Equation, registers: &[Register]) -> Option<EqId>
-    requires shape { HasArity e.now.op e.now.args }
-    requires known { All (λ a. a < length registers.now) e.now.args }
-    ensures handed { option_and_then (held_at registers.now) result ≡ chosen_of e.now.op (map (held_at registers.now) e.now.args) }
-    ensures known { IfSome result (λ a. a < length registers.now) }
-{
-    let args = e.args.ids();
-    match &e.op {
-        Op::Merge => merged(args[0], args[1], registers),
-        Op::Filter => passed(args[0], args[1], registers),
-        Op::Pick => picked(args[0], args[1], args[2], registers),
-        _ => None,
-    }
-}
-
-/// Hands on the last event of the first argument, where the second one has an event.
+/// Hands on the last event of an equation, where another one has an event.
+#[inline(always)]
 fn hand_last(
-    args: &Args,
+    value: EqId,
+    trigger: EqId,
     place: usize,
     registers: &mut [Register],
     last: &[Register],
 ) -> Result<(), NoMemory>
-    requires shape { HasArity Op.Last args.now }
-    requires known { All (λ a. a < length registers.old) args.now }
-    requires one_each { length last.now ≡ length registers.old }
+    requires value { value < length last.now }
+    requires trigger { trigger < length registers.old }
     requires place { place < length registers.old }
     ensures { OnOk result (HasHanded place
-        (if is_some (held_at registers.old (slice_index args.now 1)) then held_at last.now (slice_index args.now 0) else None)
+        (if is_some (held_at registers.old trigger) then held_at last.now value else None)
         registers.old registers.new) }
 {
-    if argument(registers, args, 1).is_empty() {
+    if register(registers, trigger).is_empty() {
         put(Register::Empty, place, registers);
         return Ok(());
     }
-    put_copy(argument(last, args, 0), place, registers)
+    put_copy(register(last, value), place, registers)
 }
 
 /// Hands on the event of an argument, or nothing.
+#[inline(always)]
 fn hand_chosen(from: Option<EqId>, place: usize, registers: &mut [Register]) -> Result<(), NoMemory>
     requires known { IfSome from (λ a. a < length registers.old) }
     requires place { place < length registers.old }
@@ -169,21 +151,27 @@ fn hand_chosen(from: Option<EqId>, place: usize, registers: &mut [Register]) -> 
     }
 }
 
-/// Hands on an event: the register of the equation gets it, or nothing.
-pub(crate) fn hand_on(
-    e: &Equation,
+/// Hands on an event by an action that does. Others do nothing.
+#[inline(always)]
+pub(crate) fn hand_by(
+    action: Action,
     place: usize,
     registers: &mut [Register],
     last: &[Register],
 ) -> Result<(), NoMemory>
-    requires shape { HasArity e.now.op e.now.args }
-    requires known { All (λ a. a < length registers.old) e.now.args }
+    requires known { (o : Op) (args : List ℕ) → IsActionOf action o args → All (λ a. a < length registers.old) args }
     requires one_each { length last.now ≡ length registers.old }
     requires place { place < length registers.old }
-    ensures { OnOk result (HasHanded place (handed_of registers.old last.now e.now.op e.now.args) registers.old registers.new) }
+    ensures { OnOk result ((o : Op) (args : List ℕ)
+        → IsActionOf action o args
+        → hands_on o ≡ true
+        → HasHanded place (handed_of registers.old last.now o args) registers.old registers.new) }
 {
-    if let Op::Last = &e.op {
-        return hand_last(&e.args, place, registers, last);
+    match action {
+        Action::Merge(a, b) => hand_chosen(merged(a, b, registers), place, registers),
+        Action::Filter(a, c) => hand_chosen(passed(a, c, registers), place, registers),
+        Action::Pick(c, a, b) => hand_chosen(picked(c, a, b, registers), place, registers),
+        Action::Last(v, r) => hand_last(v, r, place, registers, last),
+        Action::Given | Action::Own | Action::Print => Ok(()),
     }
-    hand_chosen(chosen(e, registers), place, registers)
 }

@@ -128,6 +128,7 @@ fn run_registers(
         flat,
         plan,
         &tables.uses,
+        &tables.actions,
         time,
         all,
         at_once,

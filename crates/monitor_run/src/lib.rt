@@ -2,6 +2,7 @@
 //! the pending delays and the events of the open time.
 #![tactic(auto)]
 
+mod action;
 mod begin;
 mod case;
 mod delay;

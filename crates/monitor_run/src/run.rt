@@ -1,6 +1,6 @@
 // The steps of an instant, in order.
 
-ghost use Rattle.std.specs.Prelude.{◌≡◌, ◌≢◌, ◌<◌, ◌≤◌, ◌++◌, ◌∷◌, ◌&&◌, ◌||◌, ℕ, [], Bool, All, IfOk, OnOk, IsFalse, IsTrue, MatchOption, None, Option};
+ghost use Rattle.std.specs.Prelude.{◌≡◌, ◌≢◌, ◌<◌, ◌≤◌, ◌++◌, ◌∷◌, ◌&&◌, ◌||◌, ℕ, [], Bool, All, IfOk, OnOk, IsFalse, IsTrue, MatchOption, None, Option, Some};
 ghost use Rattle.std.specs.Prelude.{false, true, if◌then◌else◌, is_some, length, slice_get, slice_index_or, slice_set, take};
 ghost use Rattle.std.specs.List.{list_any};
 ghost use Rattle.agenda.specs.inner.Marks.{has_mark};
@@ -15,16 +15,20 @@ ghost use Rattle.flat_core.specs.Members.{is_in};
 ghost use Rattle.register_machine.specs.Content.{print_of};
 ghost use Rattle.step_uses.specs.Uses.{row};
 ghost use Rattle.monitor_run.specs.inner.Here.{TakesTyped, hands_on, is_blocked_here, is_given_op, is_marked};
-ghost use Rattle.monitor_run.specs.inner.Instant.{HasPrinted, HasRunAll, HasRunOne, IsLeastRoot, SameBeside, name_of};
+ghost use Rattle.monitor_run.specs.inner.Instant.{IsBarred, HasPrinted, HasRunAll, HasRunOne, IsLeastRoot, SameBeside, name_of};
+ghost use Rattle.flat_core.specs.declared.equation.Equation.{Equation};
+ghost use Rattle.flat_core.specs.System.{equation};
+ghost use Rattle.monitor_run.specs.inner.Actions.{AreActions, IsActionAt};
 ghost use Rattle.monitor_run.specs.inner.Machine.{AreFresh, AreUnmarked, CanPrint, HasRoom, front_of, printed_to};
 ghost use Rattle.monitor_run.specs.inner.Registers.{AreHeld, register_at, value_at};
 ghost use Rattle.monitor_run.specs.inner.Shown.{plan_in};
 ghost use Rattle.monitor_run.specs.inner.Visits.{AreFilled, AreMarked, AreSkipped, AreUnprinted, AreUses, AreWithin, HasPlaces, IsNextPlace};
 ghost use Rattle.monitor_run.specs.inner.Visits.{has_come, is_empty};
 
+use crate::action::Action;
 use crate::case::put_own;
 use crate::event::{add_line, print_output};
-use crate::hand::{hand_on, hands_on};
+use crate::hand::hand_by;
 use crate::machine::{Machine, empty};
 use crate::visits::Visits;
 use agenda::marks::Agenda;
@@ -86,30 +90,16 @@ fn some_fault(ids: &[EqId], faulted: &[bool]) -> bool
     false
 }
 
-/// An argument that is used at the same time is a fault. While no equation is one, none has to be looked at.
-fn is_blocked(e: &Equation, is_sound: bool, faulted: &[bool]) -> bool
+/// An argument that is used at the same time is a fault.
+fn is_blocked(e: &Equation, faulted: &[bool]) -> bool
     requires shape { HasArity e.now.op e.now.args }
     requires known { All (λ a. a < length faulted.now) e.now.args }
-    requires sound { IsTrue is_sound → is_blocked_here faulted.now e.now.op e.now.args ≡ false }
     ensures { result ≡ is_blocked_here faulted.now e.now.op e.now.args }
 {
-    if is_sound {
-        return false;
-    }
     match &e.op {
         Op::Last => faulted[e.args.ids()[1].get() as usize],
         Op::Delay => false,
         _ => some_fault(e.args.ids(), faulted),
-    }
-}
-
-/// Inputs and delays have their events from the beginning of an instant.
-pub(crate) fn is_given(o: &Op) -> bool
-    ensures { result ≡ is_given_op o.now }
-{
-    match o {
-        Op::Input | Op::Delay => true,
-        _ => false,
     }
 }
 
@@ -156,46 +146,100 @@ fn run_own(
     }
 }
 
-/// Runs an equation: its register gets the event of its case, or it becomes a fault. A root fault is answered. `is_sound` may be set where
-/// no equation is a fault yet.
-pub(crate) fn run_one(
+/// Passes on a fault: where an argument that is used at the same time is one, the equation becomes one, and its register is emptied.
+#[inline(never)]
+fn pass_fault(e: &Equation, id: EqId, machine: &mut Machine) -> bool
+    requires shape { HasArity e.now.op e.now.args }
+    requires known { All (λ a. a < length machine.old.faulted.items) e.now.args }
+    requires register_there { id < length machine.old.registers.items }
+    requires mark_there { id < length machine.old.faulted.items }
+    ensures blocked { result ≡ is_blocked_here machine.old.faulted.items e.now.op e.now.args }
+    ensures same { SameBeside machine.old machine.new }
+    ensures texts { machine.new.texts ≡ machine.old.texts }
+    ensures barred { IsTrue result → IsBarred id machine.old machine.new }
+    ensures unbarred { IsFalse result → machine.new ≡ machine.old }
+{
+    if !is_blocked(e, &machine.faulted) {
+        return false;
+    }
+    let place = id.get() as usize;
+    empty(place, &mut machine.registers);
+    machine.faulted[place] = true;
+    true
+}
+
+/// Passes on a fault. `is_sound` may be set where no equation is a fault yet: then no argument has to be looked at.
+#[inline(always)]
+fn bar(flat: &Flat, id: EqId, is_sound: bool, machine: &mut Machine) -> bool
+    requires whole { IsFlat flat.now }
+    requires room { HasRoom flat.now machine.old }
+    requires there { id < length flat.now.equations }
+    requires sound { IsTrue is_sound
+        → (e : Equation)
+        → equation flat.now id ≡ Some e
+        → is_blocked_here machine.old.faulted.items e.op e.args ≡ false }
+    ensures blocked { (e : Equation)
+        → equation flat.now id ≡ Some e
+        → result ≡ is_blocked_here machine.old.faulted.items e.op e.args }
+    ensures same { SameBeside machine.old machine.new }
+    ensures texts { machine.new.texts ≡ machine.old.texts }
+    ensures barred { IsTrue result → IsBarred id machine.old machine.new }
+    ensures unbarred { IsFalse result → machine.new ≡ machine.old }
+{
+    if is_sound {
+        return false;
+    }
+    pass_fault(flat.equation(id), id, machine)
+}
+
+/// Runs an equation by its action: its register gets the event of its case, or it becomes a fault. A root fault is answered. `is_sound`
+/// may be set where no equation is a fault yet: then no argument has to be looked at for that.
+#[inline(always)]
+fn run_action(
     alloc: Global,
-    e: &Equation,
+    flat: &Flat,
     id: EqId,
+    action: Action,
     in_place: &EqSet,
     time: Time,
     is_sound: bool,
     machine: &mut Machine,
 ) -> Result<Option<Root>, NoMemory>
-    requires shape { HasArity e.now.op e.now.args }
-    requires registers_known { All (λ a. a < length machine.old.registers.items) e.now.args }
-    requires faulted_known { All (λ a. a < length machine.old.faulted.items) e.now.args }
-    requires register_there { id < length machine.old.registers.items }
-    requires mark_there { id < length machine.old.faulted.items }
-    requires number_there { id < length machine.old.store.ledger }
-    requires last_each { length machine.old.last.items ≡ length machine.old.registers.items }
-    requires typed { is_given_op e.now.op ≡ false
-        → hands_on e.now.op ≡ false
-        → TakesTyped machine.old.store.cells machine.old.registers.items e.now }
-    requires sound { IsTrue is_sound → is_blocked_here machine.old.faulted.items e.now.op e.now.args ≡ false }
+    requires whole { IsFlat flat.now }
+    requires room { HasRoom flat.now machine.old }
+    requires there { id < length flat.now.equations }
+    requires action { IsActionAt flat.now id action }
+    requires typed { (e : Equation)
+        → equation flat.now id ≡ Some e
+        → is_given_op e.op ≡ false
+        → hands_on e.op ≡ false
+        → TakesTyped machine.old.store.cells machine.old.registers.items e }
+    requires sound { IsTrue is_sound
+        → (e : Equation)
+        → equation flat.now id ≡ Some e
+        → is_blocked_here machine.old.faulted.items e.op e.args ≡ false }
     ensures same { SameBeside machine.old machine.new }
     ensures texts { machine.new.texts ≡ machine.old.texts }
-    ensures ran { IfOk result (λ root. HasRunOne (is_in in_place.now id) time id e.now machine.old machine.new root) }
+    ensures ran { IfOk result (λ root. (e : Equation)
+        → equation flat.now id ≡ Some e
+        → HasRunOne (is_in in_place.now id) time id e machine.old machine.new root) }
 {
-    if is_given(&e.op) {
+    if bar(flat, id, is_sound, machine) {
         return Ok(None);
     }
-    let place = id.get() as usize;
-    if is_blocked(e, is_sound, &machine.faulted) {
-        empty(place, &mut machine.registers);
-        machine.faulted[place] = true;
-        return Ok(None);
+    match action {
+        Action::Given => Ok(None),
+        Action::Own => run_own(alloc, flat.equation(id), id, in_place, time, machine),
+        _ => {
+            hand_by(
+                action,
+                id.get() as usize,
+                &mut machine.registers,
+                &machine.last,
+            )?;
+            Ok(None)
+        }
     }
-    if hands_on(&e.op) {
-        hand_on(e, place, &mut machine.registers, &machine.last)?;
-        return Ok(None);
-    }
-    run_own(alloc, e, id, in_place, time, machine)
 }
 
 /// An output has no event, and no text either.
@@ -388,6 +432,7 @@ pub(crate) fn run_steps(
     flat: &Flat,
     plan: &Plan,
     uses: &Rows,
+    actions: &[Action],
     time: Time,
     all: bool,
     at_once: Option<usize>,
@@ -399,6 +444,7 @@ pub(crate) fn run_steps(
     requires fine { IsFinePlan flat.now plan.now.in_place plan.now.order }
     requires uses { AreUses flat.now plan.now.order uses.now }
     requires within { AreWithin uses.now (length plan.now.order) }
+    requires actions { AreActions flat.now plan.now.order actions.now }
     requires places { HasPlaces flat.now plan.now.order visits.old }
     requires room { HasRoom flat.now machine.old }
     requires held { (types : ℕ → ValueType)
@@ -431,9 +477,18 @@ pub(crate) fn run_steps(
         let step = steps[place];
         if step < flat.count() {
             let id = EqId::new(step);
-            let e = flat.equation(id);
+            let action = actions[place];
             let is_sound = root.is_none();
-            let found = run_one(alloc, e, id, &plan.in_place, time, is_sound, machine)?;
+            let found = run_action(
+                alloc,
+                flat,
+                id,
+                action,
+                &plan.in_place,
+                time,
+                is_sound,
+                machine,
+            )?;
             root = least_root(root, found);
             note(
                 id,

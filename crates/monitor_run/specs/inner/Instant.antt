@@ -90,6 +90,12 @@ pub record SameBeside (old new : Machine) : Type 0 where
   pub ledger_each : length new.store.ledger ≡ length old.store.ledger
   pub texts_each : length new.texts.items ≡ length old.texts.items
 
+-- equation i has become a fault, since an argument is one: its register is empty
+pub record IsBarred (i : ℕ) (old new : Machine) : Type 0 where
+  pub registers : new.registers.items ≡ slice_set old.registers.items i register.Empty
+  pub faulted : new.faulted.items ≡ slice_set old.faulted.items i true
+  pub store : new.store ≡ old.store
+
 -- The ways in which an equation runs: an input or a delay has its event already; a fault of an argument is passed on; the register is
 -- filled as the own case has it; or the own case faults, which is the root fault that is answered. The register of a fault is emptied.
 pub data HasRunOne (in_place : Bool) (t i : ℕ) (e : Equation) (old new : Machine) : Option Root → Type 0 where

@@ -8,6 +8,7 @@ use Rattle.flat_core.specs.Members.{is_in}
 use Rattle.flat_core.specs.System.{System}
 use Rattle.flat_core.specs.Kept.{keeps_of, timers_of}
 use Rattle.step_uses.specs.Uses.{is_of_delay, row, used_by}
+use Rattle.monitor_run.specs.inner.Actions.{AreActions}
 use Rattle.monitor_run.specs.inner.Here.{is_marked}
 use Rattle.monitor_run.specs.inner.Registers.{register_at}
 use Rattle.monitor_run.specs.declared.machine.Machine.{Machine}
@@ -35,6 +36,7 @@ abbrev pub AreKept : System → List Bool → Type 0
 AreKept s kept = (i : ℕ) → i < length s.equations → slice_index_or kept i false ≡ is_in (keeps_of s) i
 
 pub record AreTables (s : System) (order : List ℕ) (t : Tables) : Type 0 where
+  pub actions : AreActions s order t.actions.items
   pub uses : AreUses s order t.uses
   pub within : AreWithin t.uses (length order)
   pub delays : AreDelays s t.delays

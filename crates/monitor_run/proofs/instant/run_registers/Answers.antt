@@ -28,7 +28,7 @@ first_refused-refused-requires-clause-running c =
     subst (All (λ i. IsTrue (is_timer c.args.flat.now i))) (sym c.delays.ensures)
     (delays_run c.args.flat.now c.requires.whole c.args.tables.now c.args.plan.now.order c.requires.tables c.args.all_delays c.args.timers.now c.requires.timers c.run_steps.new.visits.filled.items c.if-not-all_delays.visits.delays.items c.run_steps.new.machine.registers.items (c.run_steps.ensures.same.registers_each ∙ c.begin.ensures.room.registers) (λ going. c.in_ok-found.ensures.filled (c.requires.fewer going))
     (λ going. elim c.if-not-all_delays.branch [
-      | then-not-all_delays+in_ok-gather w ↦ ap (λ v. v.delays.items) w.visits-is ∙ w.in_ok-gather.ensures ∙ ap (flat_map (row c.args.tables.now.delays)) w.deref.ensures.value
+      | then-not-all_delays+in_ok-gather w ↦ ap (λ v. v.delays.items) w.visits-is ∙ w.in_ok-gather.ensures ∙ ap (flat_map (row c.args.tables.now.delays)) w.deref-then-not-all_delays.ensures.value
       | else-not-all_delays w ↦ absurd (true≢false (sym w.if-not-all_delays.false ∙ going))
     ]))
 
@@ -43,7 +43,7 @@ returns-clause-ran c =
     c.in_ok-found.found refused c.least_root.result c.in_ok-found.ensures.ran
     (λ types cells held. refused_all c.args.flat.now c.requires.whole c.args.tables.now c.args.plan.now.order c.requires.tables c.args.all_delays c.args.timers.now c.requires.timers c.run_steps.new.visits.filled.items c.if-not-all_delays.visits.delays.items c.run_steps.new.machine.registers.items (c.run_steps.ensures.same.registers_each ∙ c.begin.ensures.room.registers) (λ going. c.in_ok-found.ensures.filled (c.requires.fewer going))
     (λ going. elim c.if-not-all_delays.branch [
-      | then-not-all_delays+in_ok-gather w ↦ ap (λ v. v.delays.items) w.visits-is ∙ w.in_ok-gather.ensures ∙ ap (flat_map (row c.args.tables.now.delays)) w.deref.ensures.value
+      | then-not-all_delays+in_ok-gather w ↦ ap (λ v. v.delays.items) w.visits-is ∙ w.in_ok-gather.ensures ∙ ap (flat_map (row c.args.tables.now.delays)) w.deref-then-not-all_delays.ensures.value
       | else-not-all_delays w ↦ absurd (true≢false (sym w.if-not-all_delays.false ∙ going))
     ]) cells refused (of_listed types cells held))
     c.least_root.ensures.least c.least_root.ensures.none

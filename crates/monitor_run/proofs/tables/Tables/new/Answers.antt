@@ -14,4 +14,4 @@ delay_uses-requires c = subst (λ (q : System). All (λ i. i < length q.equation
 pub returns : goal.returns
 returns c =
     tables_are c.args.code.now.system c.flat-flat.result.now c.args.code.now.order c.as_slice-order.result.now c.timers.result.now c.keeps.result.now c.count-count.result _ c.flat-flat.ensures.flat (c.as_slice-order.ensures ∙ c.plan.ensures.order) c.timers.ensures c.keeps.ensures
-    (c.count-count.ensures.count ∙ ap (λ (q : System). length q.equations) c.flat-flat.ensures.flat) c.in_ok-step_uses.ensures.size c.in_ok-step_uses.ensures.uses c.in_ok-delay_uses.ensures.uses c.in_ok-marked.ensures.size c.in_ok-marked.ensures.marked
+    (c.count-count.ensures.count ∙ ap (λ (q : System). length q.equations) c.flat-flat.ensures.flat) c.in_ok-actions_of.ensures c.in_ok-step_uses.ensures.size c.in_ok-step_uses.ensures.uses c.in_ok-delay_uses.ensures.uses c.in_ok-marked.ensures.size c.in_ok-marked.ensures.marked
