@@ -122,12 +122,11 @@ fn slot_of(bytes: &[u8]) -> usize {
     slot % SLOTS
 }
 
-/// The name of an input of scalars, where it can stand in a trace. Units are left out: mostly they stand without a value.
+/// The name of an input of scalars, where it can stand in a trace.
 fn plain_name(equation: &Equation) -> Option<&str>
     ensures { IfSome result (λ name. (of : ScalarType) × IsInputOf of name.now equation.now) }
 {
     match (&equation.op, equation.of, &equation.name) {
-        (Op::Input, ValueType::Scalar(ScalarType::Unit), _) => None,
         (Op::Input, ValueType::Scalar(_), Some(name)) => { name_of(name.as_str().as_bytes()) }
         _ => None,
     }

@@ -18,6 +18,9 @@ use tsl_value::time::Time;
 /// So many digits spell a number below 2^63.
 const MAX_DIGITS: usize = 18;
 
+/// The byte of the digit 0.
+const ZERO: u64 = 48;
+
 /// The time, the input and the value of a line, and how many bytes it has, its end not counted.
 #[derive(Drop)]
 pub(crate) struct PlainLine {
@@ -85,6 +88,7 @@ fn value_before(alloc: Global, of: ScalarType, bytes: &[u8]) -> Option<(Scalar, 
 
 /// The literal that goes up to the line's end, and what stands after it. Out of memory it is `None` too, and is asked again where the line is
 /// judged.
+#[inline(never)]
 fn literal_before(alloc: Global, of: ScalarType, bytes: &[u8]) -> Option<(Scalar, &[u8])>
     ensures { IfSome result (λ r. BeginsWithValue of bytes.now r.0 r.1.now) }
 {
@@ -189,7 +193,7 @@ fn number_before(bytes: &[u8]) -> Option<(u64, &[u8])>
         if !digit.is_ascii_digit() {
             break;
         }
-        number = number * 10 + u64::from(*digit - b'0');
+        number = number * 10 + (u64::from(*digit) - ZERO);
         rest = others;
     }
     let count = front.len() - rest.len();

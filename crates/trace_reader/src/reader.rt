@@ -274,6 +274,7 @@ impl<'f> TraceReader<'f> {
     }
 
     /// Gives the first line that stands.
+    #[inline(never)]
     fn take_line(&mut self, len: usize) -> Result<Next, TraceFault>
         requires line { HasLine self.old len }
         requires within { len ≤ length self.old.unread }
@@ -329,6 +330,7 @@ impl<'f> TraceReader<'f> {
     }
 
     /// What comes where no line stands.
+    #[inline(never)]
     fn next_at_rest(&mut self) -> Result<Next, TraceFault>
         requires line { first_line self.old.unread (last_counts self.old) ≡ None }
         requires accepted { self.old.refused ≡ None }

@@ -1,6 +1,7 @@
 // The inputs that had an event at the last time.
 
-ghost use Rattle.std.specs.Prelude.{◌≡◌, ◌<◌, ◌∷◌, ◌++◌, [], ℕ, IfOk, OnErr, OnOk, Some, length, slice_get, vec_capacity, vec_len};
+ghost use Rattle.std.specs.Prelude.{◌≡◌, ◌<◌, ◌∷◌, ◌++◌, [], ℕ, IfOk, OnErr, OnOk, Some, length, slice_get, if◌then◌else◌};
+ghost use Rattle.std.specs.Prelude.{vec_capacity, vec_len};
 ghost use Rattle.flat_core.specs.Members.{is_in};
 ghost use Rattle.trace_reader.specs.Reading.{is_among};
 ghost use Rattle.trace_reader.specs.inner.LastTime.{last_of};
@@ -23,13 +24,44 @@ pub(crate) fn note_event(
     ensures ok { OnOk result (seen.new.items ≡ seen_with (last_of last.number) seen.old.items line.now) }
     ensures err { OnErr result (seen.new.items ≡ seen.old.items) }
 {
+    let again = last.is(line.time);
+    match &line.event {
+        Some((input, _)) => note_input(seen, *input, again),
+        None => {
+            if !again {
+                seen.clear();
+            }
+            Ok(())
+        }
+    }
+}
+
+/// Notes an input with those that were noted, or alone.
+#[inline(always)]
+fn note_input(seen: &mut Vec<EqId>, input: EqId, again: bool) -> Result<(), NoMemory>
+    ensures ok { OnOk result (seen.new.items ≡ (if again then seen.old.items else []) ++ input ∷ []) }
+    ensures err { OnErr result (seen.new.items ≡ seen.old.items) }
+{
+    if again {
+        seen.push(input)?;
+        return Ok(());
+    }
+    note_alone(seen, input)
+}
+
+/// Notes an input alone. Where one is noted, as mostly, it takes its place.
+#[inline(always)]
+fn note_alone(seen: &mut Vec<EqId>, input: EqId) -> Result<(), NoMemory>
+    ensures ok { OnOk result (seen.new.items ≡ input ∷ []) }
+    ensures err { OnErr result (seen.new.items ≡ seen.old.items) }
+{
+    if seen.len() == 1 {
+        seen[0] = input;
+        return Ok(());
+    }
     seen.reserve(1)?;
-    if !last.is(line.time) {
-        seen.clear();
-    }
-    if let Some((input, _)) = &line.event {
-        put(seen, *input);
-    }
+    seen.clear();
+    put(seen, input);
     Ok(())
 }
 

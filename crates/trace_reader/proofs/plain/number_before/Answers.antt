@@ -1,4 +1,4 @@
-use Rattle.std.proofs.Common.{arith, take, length, ◌∙◌, ap, refl, sym}
+use Rattle.std.proofs.Common.{arith, take, length, ◌-◌, ◌∙◌, ap, refl, sym}
 use Rattle.std.proofs.lemmas.List.{length-take}
 use Rattle.trace_reader.proofs.PlainLemmas.{digit_is, few_read, number_after, one_read}
 use Rattle.trace_reader.proofs.plain.number_before.Goals as goal
@@ -6,7 +6,7 @@ use Rattle.trace_reader.proofs.plain.number_before.Goals as goal
 pub loop-digit-preserved : goal.loop-digit-preserved
 loop-digit-preserved c =
     let passes = sym c.is_ascii_digit.ensures.value ∙ c.if-not-is_ascii_digit.false in
-    one_read (take c.min.result c.args.bytes.now) c.loop-digit.number c.loop-digit.rest.now c.in-Some.digit.now c.from.result c.in-Some.others.now c.loop-digit.invariant c.in-Some.ensures.cases.0 passes c.from.ensures
+    one_read (take c.min.result c.args.bytes.now) c.loop-digit.number c.loop-digit.rest.now c.in-Some.digit.now (c.from.result - 48) c.in-Some.others.now c.loop-digit.invariant c.in-Some.ensures.cases.0 passes (ap (λ n. n - 48) c.from.ensures)
 
 pub overflow_mul-number : goal.overflow_mul-number
 overflow_mul-number c =
