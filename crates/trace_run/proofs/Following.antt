@@ -1,5 +1,5 @@
 -- A run over a trace, by what its monitor stands for and what the monitor makes of each piece.
-use Rattle.std.proofs.Common.{◌≡◌, ◌⊎◌, inl, inr, ℕ, ◌+◌, ◌≤◌, Bool, true, false, ◌&&◌, List, [], ◌∷◌, ◌++◌, length, refl, sym, ◌∙◌, ap, subst, append_assoc, arith, Ok, None, Option, Result, Some, IsTrue}
+use Rattle.std.proofs.Common.{◌≡◌, ◌⊎◌, inl, inr, ℕ, ◌+◌, ◌≤◌, Bool, true, false, ◌&&◌, List, [], ◌∷◌, ◌++◌, length, refl, sym, ◌∙◌, ap, subst, append_assoc, arith, None, Option, Some}
 use Rattle.std.proofs.lemmas.Bool.{true≢false}
 use Rattle.std.proofs.lemmas.List.{append-nil, length-append}
 use Rattle.flat_core.specs.System.{System}
@@ -19,27 +19,15 @@ use Rattle.tsl_world.specs.declared.outside.Slot.TheVariants.{Trace}
 use Rattle.tsl_world.specs.declared.outside.Channel.TheVariants.{Out}
 use Rattle.tsl_world.specs.declared.outside.Did.{Did}
 use Rattle.tsl_world.specs.declared.outside.Did.TheVariants.{NotTook, Took}
-use Rattle.tsl_world.specs.Journal.{given, taken, ended}
-use Rattle.tsl_world.specs.Runs.{Runs}
-use Rattle.tsl_world.specs.Standing.{Standing}
-use Rattle.tsl_world.proofs.Runs.{go_on, one_call}
+use Rattle.tsl_world.specs.Journal.{given, taken, ended, Each, IsDone}
+use Rattle.tsl_world.specs.Begins.{Begins}
 use Rattle.tsl_world.proofs.Untouched.{gifts_read_none, taken_before}
 use Rattle.trace_run.specs.Before.{Before}
-use Rattle.trace_run.specs.Effects.{EndsWhere, Gives, HasWatched, KeepsAll, StandsAfter, Watched}
+use Rattle.trace_run.specs.Effects.{EndsWhere, HasWatched, KeepsAll, StandsAfter, Writes}
+use Rattle.trace_run.specs.inner.Round.{Advanced, AreAlike, Broke, HasCountedAll, HasEnded, HasGone, IsRead, Stopped, Turned, cut_off, end_untold, lost, passed, unread, unwritten}
 use Rattle.trace_run.proofs.Added.{Added, ends, ends_where, failed_added, gifts_added, none_added, read_added, stopped, stopped_between, taken_more}
 use Rattle.trace_run.proofs.Dues.{due_more}
 use Rattle.trace_run.proofs.Watching.{Stands, at_start, not_zero, read_failed, read_more, wrote, wrote_all}
-
--- what a monitor makes of a piece, whatever it stands for
-pub record Advanced (s : System) (o : Options) (old new : State) (piece out : List ℕ) (next : Option RunEnding) : Type 0 where
-  pub due : (fed text : List ℕ) → Kept old fed → IsDue s o fed false text → IsDue s o (fed ++ piece) (is_nothing piece) (text ++ out)
-  pub stands : (fed : List ℕ) → Kept old fed → IsNext s o (fed ++ piece) (is_nothing piece) next
-  pub kept : next ≡ None → (fed : List ℕ) → Kept old fed → Kept new (fed ++ piece)
-  pub counted : (how : RunEnding) → next ≡ Some how → (fed : List ℕ) → Kept old fed → HasCounted s o (fed ++ piece) (is_nothing piece) new.engine how
-
--- what an engine has counted, whatever its monitor stands for
-abbrev pub HasCountedAll : System → Options → State → Type 0
-HasCountedAll s o m = (fed : List ℕ) → Kept m fed → HasCounted s o fed false m.engine run.Done
 
 -- by the system and the options of the monitor that the run began with
 pub advanced_as : (s u : System) (o p : Options) (old new : State) (piece out : List ℕ) (next : Option RunEnding) → s ≡ u → o ≡ p → Advanced s o old new piece out next → Advanced u p old new piece out next
@@ -130,7 +118,7 @@ both_false false = refl
 
 module _ (first m : State) (tells_end : Bool) where
   -- a read that failed
-  read_broken : m.reader.taken ≤ first.options.bytes → (part : List Did) → Goes first m part → Watched first.system (StandsAfter first) tells_end first.reader.taken first.options.bytes (part ++ NotTook Trace ∷ [])
+  read_broken : m.reader.taken ≤ first.options.bytes → (part : List Did) → Goes first m part → HasGone first tells_end (part ++ NotTook Trace ∷ [])
   read_broken few part goes = let stood = read_failed first.reader.taken first.options.bytes part goes.stands (few_now first m few part goes) in record {
     work = stood.work;
     ends = stood.ends;
@@ -143,8 +131,8 @@ module _ (first m : State) (tells_end : Bool) where
   }
 
   -- a piece that the monitor did not take, out of memory
-  pub lost : IsReady first.system → (piece : List ℕ) (part : List Did) → HasRead first m piece part → Watched first.system (StandsAfter first) tells_end first.reader.taken first.options.bytes part
-  lost ready piece part read = let stood = read.stands.stood in record {
+  lost_piece : IsReady first.system → (piece : List ℕ) (part : List Did) → HasRead first m piece part → HasGone first tells_end part
+  lost_piece ready piece part read = let stood = read.stands.stood in record {
     work = stood.work;
     ends = stood.ends;
     stops = stood.stops;
@@ -167,7 +155,7 @@ module _ (first m : State) (tells_end : Bool) where
     was_read : ended Trace part ≡ true
     was_read = read.stands.stood.end_is ∙ ap is_nothing none
 
-    pub untold_watched : Watched first.system (StandsAfter first) tells_end first.reader.taken first.options.bytes part
+    untold_watched : HasGone first tells_end part
     untold_watched = record {
       work = read.stands.stood.work;
       ends = read.stands.stood.ends;
@@ -179,7 +167,7 @@ module _ (first m : State) (tells_end : Bool) where
           (subst (λ (l : List ℕ). IsDue first.system b.options l false f.text) (nothing_more f.fed) f.due);
     }
 
-    pub untold_ends : HasCountedAll first.system first.options m → HasWatched first.system (StandsAfter first) tells_end m.engine run.Done part
+    untold_ends : HasCountedAll first.system first.options m → HasWatched first.system (StandsAfter first) tells_end m.engine run.Done part
     untold_ends counted = record {
       done = read.stands.done;
       read = λ is. was_read;
@@ -192,7 +180,7 @@ module _ (first m : State) (tells_end : Bool) where
           (subst (λ (l : List ℕ). HasCounted first.system b.options l false m.engine run.Done) (nothing_more f.fed) has);
     }
 
-    pub untold_kept : KeepsAll first m tells_end run.Done part
+    untold_kept : KeepsAll first m tells_end run.Done part
     untold_kept not_at_end done b before =
         let f = read.follows b before in
         subst (λ (l : List ℕ). Kept m l) (nothing_more f.fed ∙ sym f.added.bytes_are) f.kept
@@ -222,36 +210,36 @@ module _ (first m new : State) (tells_end : Bool) (piece out : List ℕ) (next :
   told_so end_is = ap (λ (x : Bool). tells_end && x) end_is ∙ told
 
   -- however far the writing came
-  pub wrote_some : {E : Type 0} (result : Result (Unit {0}) E) → Gives Out out result q → Watched first.system (StandsAfter first) tells_end first.reader.taken first.options.bytes (p ++ q)
-  wrote_some result gives = let stood = wrote first.reader.taken first.options.bytes p q (is_nothing piece) read.stands gives.writes in record {
+  wrote_some : Writes Out q → Begins (given Out q) out → HasGone first tells_end (p ++ q)
+  wrote_some writes some = let stood = wrote first.reader.taken first.options.bytes p q (is_nothing piece) read.stands writes in record {
     work = stood.work;
     ends = stood.ends;
     stops = stood.stops;
     within = stood.within;
     after = λ b before.
         let f = read.follows b before in
-        stopped first.system b tells_end (p ++ q) (f.fed ++ piece) (f.text ++ given Out q) (is_nothing piece) (gifts_added first.system b p q (f.fed ++ piece) f.text f.added gives.writes.gifts)
-        (told_so stood.end_is) gives.some.rest
+        stopped first.system b tells_end (p ++ q) (f.fed ++ piece) (f.text ++ given Out q) (is_nothing piece) (gifts_added first.system b p q (f.fed ++ piece) f.text f.added writes.gifts)
+        (told_so stood.end_is) some.rest
         (subst (λ (l : List ℕ). IsDue first.system b.options (f.fed ++ piece) (is_nothing piece) l)
-        (ap (λ (l : List ℕ). f.text ++ l) gives.some.is ∙ sym (append_assoc f.text (given Out q) gives.some.rest)) ((adv b before).due f.fed f.text f.kept f.due));
+        (ap (λ (l : List ℕ). f.text ++ l) some.is ∙ sym (append_assoc f.text (given Out q) some.rest)) ((adv b before).due f.fed f.text f.kept f.due));
   }
 
-  module _ {E : Type 0} (gives : Gives {E = E} Out out (Ok tt) q) where
+  module _ (writes : Writes Out q) (done : Each IsDone q) (whole : given Out q ≡ out) where
     stands_on : Stands first.reader.taken first.options.bytes (p ++ q) (is_nothing piece)
-    stands_on = wrote_all first.reader.taken first.options.bytes p q (is_nothing piece) read.stands gives.writes gives.done
+    stands_on = wrote_all first.reader.taken first.options.bytes p q (is_nothing piece) read.stands writes done
 
     added_on : (b : Before) (before : StandsAfter first b) → Added first.system b (p ++ q) ((read.follows b before).fed ++ piece) ((read.follows b before).text ++ out)
     added_on b before =
         let f = read.follows b before in
-        subst (λ (l : List ℕ). Added first.system b (p ++ q) (f.fed ++ piece) (f.text ++ l)) gives.whole (gifts_added first.system b p q (f.fed ++ piece) f.text f.added gives.writes.gifts)
+        subst (λ (l : List ℕ). Added first.system b (p ++ q) (f.fed ++ piece) (f.text ++ l)) whole (gifts_added first.system b p q (f.fed ++ piece) f.text f.added writes.gifts)
 
     -- the run goes on
-    pub goes_further : is_nothing piece ≡ false → next ≡ None → new.reader.taken ≡ m.reader.taken + length piece → Goes first new (p ++ q)
+    goes_further : is_nothing piece ≡ false → next ≡ None → new.reader.taken ≡ m.reader.taken + length piece → Goes first new (p ++ q)
     goes_further some is takes = record {
       stands = subst (λ (e : Bool). Stands first.reader.taken first.options.bytes (p ++ q) e) some stands_on;
       taken_is =
           let was = read.taken_is in
-          let all = ap length (taken_before Trace p q (gifts_read_none Out Trace q gives.writes.gifts)) in
+          let all = ap length (taken_before Trace p q (gifts_read_none Out Trace q writes.gifts)) in
           omega arith;
       follows = λ b before.
           let f = read.follows b before in
@@ -269,7 +257,7 @@ module _ (first m new : State) (tells_end : Bool) (piece out : List ℕ) (next :
 
     -- the run ends
     module _ (how : RunEnding) (is : next ≡ Some how) (at_end : how ≡ run.Done → is_nothing piece ≡ true) where
-      pub told_ends : HasWatched first.system (StandsAfter first) tells_end new.engine how (p ++ q)
+      told_ends : HasWatched first.system (StandsAfter first) tells_end new.engine how (p ++ q)
       told_ends = record {
         done = stands_on.done;
         read = λ done. stands_on.stood.end_is ∙ at_end done;
@@ -282,22 +270,74 @@ module _ (first m new : State) (tells_end : Bool) (piece out : List ℕ) (next :
             (a.counted how is f.fed f.kept);
       }
 
-      pub told_kept : KeepsAll first new tells_end how (p ++ q)
+      told_kept : KeepsAll first new tells_end how (p ++ q)
       told_kept untold done b before = absurd (no_ending tells_end piece untold told (at_end done))
 
--- one read of the trace more, told or not
-module _ {W : Type 0} (told : W → Bool) (journal : W → List Did) (standing : W → Standing) (first m : State) where
-  pub read_on : (old mid new : W) (piece : List ℕ) → m.reader.taken ≤ first.options.bytes → Runs told journal standing old mid (Goes first m) → length piece ≤ MOST_PIECE_BYTES → (IsTrue (told new) → IsTrue (told mid)) → standing new ≡ standing mid
-      → (IsTrue (told new) → journal new ≡ journal mid ++ Took Trace piece ∷ []) → Runs told journal standing old new (HasRead first m piece)
-  read_on old mid new piece few calls short kept stands adds =
-      go_on told journal standing old mid new _ (λ q. q ≡ Took Trace piece ∷ []) _ calls
-      (one_call told journal standing mid new (Took Trace piece) (λ q. q ≡ Took Trace piece ∷ []) kept stands adds refl)
-      (λ p q at is. subst (λ (l : List Did). HasRead first m piece (p ++ l)) (sym is) (read_one first m few p at piece short))
+-- one monitor after another
+pub alike_on : (one two three : State) → AreAlike one two → AreAlike two three → AreAlike one three
+alike_on one two three first more = record {
+  system = more.system ∙ first.system;
+  options = more.options ∙ first.options;
+  engine = more.engine ∙ first.engine;
+  set = more.set ∙ first.set;
+  order = more.order ∙ first.order;
+}
 
-  -- or one that failed
-  pub read_fails : (tells_end : Bool) (old mid new : W) → m.reader.taken ≤ first.options.bytes → Runs told journal standing old mid (Goes first m) → (IsTrue (told new) → IsTrue (told mid)) → standing new ≡ standing mid
-      → (IsTrue (told new) → journal new ≡ journal mid ++ NotTook Trace ∷ []) → Runs told journal standing old new (Watched first.system (StandsAfter first) tells_end first.reader.taken first.options.bytes)
-  read_fails tells_end old mid new few calls kept stands adds =
-      go_on told journal standing old mid new _ (λ q. q ≡ NotTook Trace ∷ []) _ calls
-      (one_call told journal standing mid new (NotTook Trace) (λ q. q ≡ NotTook Trace ∷ []) kept stands adds refl)
-      (λ p q at is. subst (λ (l : List Did). Watched first.system (StandsAfter first) tells_end first.reader.taken first.options.bytes (p ++ l)) (sym is) (read_broken first m tells_end few p at))
+-- one round more
+module _ (first m : State) (alike : AreAlike first m) (waits : Waits m) (tells_end : Bool) (p : List Did) (goes : Goes first m p) where
+  few : m.reader.taken ≤ first.options.bytes
+  few = few_taken first m alike.options waits
+
+  by_first : (new : State) (piece out : List ℕ) (next : Option RunEnding) → Advanced m.system m.options m new piece out next → Advanced first.system first.options m new piece out next
+  by_first new piece out next advanced = advanced_as m.system first.system m.options first.options m new piece out next alike.system alike.options advanced
+
+  read_then : (piece : List ℕ) → length piece ≤ MOST_PIECE_BYTES → HasRead first m piece (p ++ Took Trace piece ∷ [])
+  read_then piece short = read_one first m few p goes piece short
+
+  -- which is cut short
+  gone_by : IsReady first.system → (piece : List ℕ) (part : List Did) → IsRead tells_end piece → Stopped m piece part → HasGone first tells_end ((p ++ Took Trace piece ∷ []) ++ part)
+  gone_by ready piece _ read lost =
+      subst (λ (l : List Did). HasGone first tells_end l) (sym (append-nil (p ++ Took Trace piece ∷ []))) (lost_piece first m tells_end ready piece (p ++ Took Trace piece ∷ []) (read_then piece read.short))
+  gone_by ready piece _ read (unwritten new next out part advanced writes some) =
+      wrote_some first m new tells_end piece out next read.told (by_first new piece out next advanced) (p ++ Took Trace piece ∷ []) part (read_then piece read.short) writes some
+
+  pub gone_round : IsReady first.system → (q : List Did) → Broke m tells_end q → HasGone first tells_end (p ++ q)
+  gone_round ready _ unread = read_broken first m tells_end few p goes
+  gone_round ready _ (cut_off piece part read how) = subst (λ (l : List Did). HasGone first tells_end l) (append_assoc p (Took Trace piece ∷ []) part) (gone_by ready piece part read how)
+
+  -- after which the run goes on
+  pub goes_round : (new : State) (q : List Did) → Turned m new tells_end None q → Goes first new (p ++ q)
+  goes_round new _ (end_untold untold same done counted) = absurd (cc)
+  goes_round new _ (passed piece part read has) =
+      let again = has.has_taken.goes_on refl in
+      subst (λ (l : List Did). Goes first new l) (append_assoc p (Took Trace piece ∷ []) part)
+      (goes_further first m new tells_end piece has.out None read.told (by_first new piece has.out None has.advanced) (p ++ Took Trace piece ∷ []) part (read_then piece read.short) has.writes has.done has.whole
+      again.some refl again.taken)
+
+  -- after which it ends
+  ended_untold : tells_end ≡ false → HasCountedAll m.system m.options m → HasEnded first m tells_end run.Done (p ++ Took Trace [] ∷ [])
+  ended_untold not_told counted =
+      let part = p ++ Took Trace [] ∷ [] in
+      let read = read_then [] (omega arith) in
+      record {
+        gone = untold_watched first m tells_end not_told [] refl part read;
+        ends = untold_ends first m tells_end not_told [] refl part read (counted_as m.system first.system m.options first.options m alike.system alike.options counted);
+        keeps = untold_kept first m tells_end not_told [] refl part read;
+      }
+
+  pub ended_round : (new : State) (how : RunEnding) (q : List Did) → Turned m new tells_end (Some how) q → HasEnded first new tells_end how (p ++ q)
+  ended_round new how _ (end_untold not_told same done counted) =
+      let is : how ≡ run.Done = cc in
+      subst (λ (x : State). HasEnded first x tells_end how (p ++ Took Trace [] ∷ [])) (sym same)
+      (subst (λ (h : RunEnding). HasEnded first m tells_end h (p ++ Took Trace [] ∷ [])) (sym is) (ended_untold not_told counted))
+  ended_round new how _ (passed piece part read has) =
+      let q = p ++ Took Trace piece ∷ [] in
+      let next = Some how in
+      let advanced = by_first new piece has.out next has.advanced in
+      let first_read = read_then piece read.short in
+      let at_end : how ≡ run.Done → is_nothing piece ≡ true = λ done. has.has_taken.at_end (ap Some done) in
+      subst (λ (l : List Did). HasEnded first new tells_end how l) (append_assoc p (Took Trace piece ∷ []) part) record {
+        gone = wrote_some first m new tells_end piece has.out next read.told advanced q part first_read has.writes record { rest = []; is = sym (append-nil (given Out part) ∙ has.whole) };
+        ends = told_ends first m new tells_end piece has.out next read.told advanced q part first_read has.writes has.done has.whole how refl at_end;
+        keeps = told_kept first m new tells_end piece has.out next read.told advanced q part first_read has.writes has.done has.whole how refl at_end;
+      }

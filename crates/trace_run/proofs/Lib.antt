@@ -2,7 +2,9 @@ pub mod Dues
 pub mod Watching
 pub mod Added
 pub mod Following
+pub mod Rounds
 pub mod Starting
+pub mod Coming
 pub mod Writing
 pub mod Grown
 pub mod TypedLines

@@ -7,3 +7,4 @@ pub mod Effects
 pub mod Meant
 pub mod Means
 pub mod Unseen
+pub mod inner
